@@ -36,6 +36,36 @@ dataAt i e = byteAt (5 + i) e
 abbrev pub dataNumber : ℕ → ℕ → List ℕ → ℕ
 dataNumber i n e = numberAt (5 + i) n e
 
+-- ---- CAN-IDs, which the sections of document 01 name; but for SYNC and LSS the Node-ID is added
+
+-- SYNC
+abbrev pub syncId : ℕ
+syncId = 0x80
+
+abbrev pub emcys : ℕ
+emcys = 0x80
+
+abbrev pub tpdos : ℕ
+tpdos = 0x180
+
+-- SDO, to the node and from it
+abbrev pub sdoRequests : ℕ
+sdoRequests = 0x600
+
+abbrev pub sdoReplies : ℕ
+sdoReplies = 0x580
+
+-- boot-up and heartbeat
+abbrev pub heartbeats : ℕ
+heartbeats = 0x700
+
+-- LSS, to the node and from it
+abbrev pub lssRequests : ℕ
+lssRequests = 0x7e5
+
+abbrev pub lssAnswers : ℕ
+lssAnswers = 0x7e4
+
 -- ---- A frame that the node sends
 
 -- a data frame of an ID, a length and its data, with zeros past them
