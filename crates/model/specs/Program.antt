@@ -8,7 +8,7 @@ use Rattle.model.specs.declared.Identity.{Identity}
 use Rattle.model.specs.declared.Frame.{Frame}
 use Rattle.model.specs.Frames.{dataOf}
 use Rattle.model.specs.Step.{done, outputSize, zeroStore}
-use Rattle.model.specs.Run.{Call, Line, numberIn, sentIn, start, run}
+use Rattle.model.specs.Run.{Call, Line, numberIn, sentIn, begun, run}
 
 -- ---- Numbers as text (ASCII)
 
@@ -105,7 +105,7 @@ zeroIdentity = record { vendor = 0; product = 0; revision = 0; serial = 0 }
 
 -- the log of a run on these bytes, from a zero identity and a zero store
 unfoldable pub logOf : List ℕ → List Line
-logOf bytes = run (records (length bytes) bytes) (start zeroIdentity outputSize zeroStore) .log
+logOf bytes = run (records (length bytes) bytes) (begun zeroIdentity outputSize zeroStore) .log
 
 -- what the program writes, of what it reads
 unfoldable pub program : List ℕ → List ℕ

@@ -35,8 +35,8 @@ pub record World : Type 0 where
   pub log : List Line
 
 -- the world after a power-on
-unfoldable pub start : Identity → ℕ → List ℕ → World
-start i room st =
+unfoldable pub begun : Identity → ℕ → List ℕ → World
+begun i room st =
     let n = powerOnRefusal room (length st) in
     cond (eqb n done) (record { state = powerOn i st .state; store = powerOn i st .store; log = powered room done (powerOn i st .sent) ∷ [] })
     (record { state = powerOn i zeroStore .state; store = st; log = powered room n [] ∷ [] })
@@ -46,8 +46,8 @@ abbrev pub after : Call → Outcome → List Line → World
 after c o log = record { state = o .state; store = o .store; log = called (c .event) (c .room) done (o .sent) ∷ log }
 
 -- one more call
-unfoldable pub next : Call → World → World
-next c w =
+unfoldable pub continued : Call → World → World
+continued c w =
     let n = refusal (c .event) (w .state) (c .room) (length (w .store)) in
     cond (eqb n done) (after c (step (c .event) (w .state) (w .store)) (w .log))
     (record { state = w .state; store = w .store; log = called (c .event) (c .room) n [] ∷ w .log })
@@ -55,4 +55,4 @@ next c w =
 -- some calls, the first first
 unfoldable pub run : List Call → World → World
 run [] w = w
-run (c ∷ cs) w = run cs (next c w)
+run (c ∷ cs) w = run cs (continued c w)

@@ -1,0 +1,4 @@
+pub mod Everything
+pub mod Replay
+pub mod Marked
+pub mod Worked

@@ -1,0 +1,4 @@
+pub mod Numbers
+pub mod Puts
+pub mod Signed
+pub mod Lay

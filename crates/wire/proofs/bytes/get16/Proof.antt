@@ -1,0 +1,46 @@
+-- `bytes::get16` meets its contract: the law of reading at width 2. Assumes nothing.
+use native.Mathlib.Omega.{arith}
+use denote.Ref.{now}
+use Rattle.wire.proofs.Numbers.{get-law}
+use borrow.Author.Needs.{needs}
+use Rattle.wire.proofs.bytes.get16.Statement.{statement}
+use Rattle.wire.proofs.bytes.get16.Tie as tie
+
+add-a1 : tie.Need-add-a1
+add-a1 c = search needs
+
+byte-requires : tie.Need-byte-requires
+byte-requires c κs = search needs
+
+wide16-requires : tie.Need-wide16-requires
+wide16-requires c κs = search needs
+
+byte-requires-2 : tie.Need-byte-requires-2
+byte-requires-2 c κs = search needs
+
+wide16-requires-2 : tie.Need-wide16-requires-2
+wide16-requires-2 c κs = search needs
+
+mul-result : tie.Need-mul-result
+mul-result c = search needs
+
+add-result : tie.Need-add-result
+add-result c = search needs
+
+returns : tie.Need-returns
+returns c =
+    let a = c .before .before .before .before .before .args in
+    omega (arith, get-law 2 (a .at) (now (a .s)))
+
+pub get16-spec : {M : Type 1} → statement M
+get16-spec =
+    tie.close
+    (tie.spec
+    add-a1
+    byte-requires
+    wide16-requires
+    byte-requires-2
+    wide16-requires-2
+    mul-result
+    add-result
+    returns)

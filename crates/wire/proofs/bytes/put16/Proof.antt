@@ -1,0 +1,35 @@
+-- `bytes::put16` meets its contract: the law of writing at width 2. Assumes nothing.
+use native.Mathlib.Omega.{arith}
+use lib.ListN.{length-set}
+use denote.Ref.{now}
+use Rattle.model.specs.Bytes.{le}
+use Rattle.wire.proofs.Numbers.{put-law}
+use borrow.Author.Needs.{needs}
+use Rattle.wire.proofs.bytes.put16.Statement.{statement}
+use Rattle.wire.proofs.bytes.put16.Tie as tie
+
+add-a1 : tie.Need-add-a1
+add-a1 c = search needs
+
+cast-s : tie.Need-cast-s
+cast-s c = search needs
+
+slice-write-s : tie.Need-slice-write-s
+slice-write-s c = search needs
+
+cast-s-2 : tie.Need-cast-s-2
+cast-s-2 c = search needs
+
+slice-write-s-2 : tie.Need-slice-write-s-2
+slice-write-s-2 c = simp length-set (omega arith)
+
+same-length : tie.Need-same-length
+same-length c = search needs
+
+returns : tie.Need-returns
+unfolding le
+returns c = put-law (now (c .args .s)) (c .args .at) (le 2 (c .args .x)) (c .pre)
+
+pub put16-spec : {M : Type 1} → statement M
+put16-spec =
+    tie.close (tie.spec add-a1 cast-s slice-write-s cast-s-2 slice-write-s-2 same-length returns)
