@@ -15,6 +15,8 @@ use Rattle.model.specs.declared.Entry.{Entry}
 use Rattle.model.specs.declared.Entry.the-variants.{Fixed, Name, Shown, Setting, SaveWord, LoadWord}
 use Rattle.model.specs.declared.Found.{Found}
 use Rattle.model.specs.declared.Found.the-variants.{NoObject, NoSub, At}
+use Rattle.model.specs.declared.Content.{Content}
+use Rattle.model.specs.declared.Content.the-variants.{Text, Plain}
 use Rattle.model.specs.declared.State.{State}
 use Rattle.model.specs.Frames.{emcys, sdoRequests, sdoReplies, tpdos, syncId}
 use Rattle.model.specs.Settings.{inForce}
@@ -129,16 +131,11 @@ shown PvReal s = Real32 (pv s .0)
 shown FvCount s = U16 (s .core .fv .0)
 shown PvInteger s = Integer32 (toZ w32 (integerPv s .bits))
 
--- an entry reads as the name, which is a string, or as a value
-pub data Content : Type 0 where
-  text : Content
-  value : Value → Content
-
 -- what an entry reads as; 1010h and 1011h read as 1
 abbrev pub contentOf : Entry → State → Content
-contentOf (Fixed v) s = value v
-contentOf Name s = text
-contentOf (Shown l) s = value (shown l s)
-contentOf (Setting p) s = value (inForce (s .settings) p)
-contentOf (SaveWord gs) s = value (U32 1)
-contentOf (LoadWord gs) s = value (U32 1)
+contentOf (Fixed v) s = Plain v
+contentOf Name s = Text
+contentOf (Shown l) s = Plain (shown l s)
+contentOf (Setting p) s = Plain (inForce (s .settings) p)
+contentOf (SaveWord gs) s = Plain (U32 1)
+contentOf (LoadWord gs) s = Plain (U32 1)

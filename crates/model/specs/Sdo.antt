@@ -16,6 +16,10 @@ use Rattle.model.specs.declared.Found.{Found}
 use Rattle.model.specs.declared.Found.the-variants.{NoObject, NoSub, At}
 use Rattle.model.specs.declared.Change.{Change}
 use Rattle.model.specs.declared.Change.the-variants.{Keep, Write, Save, TakeOut}
+use Rattle.model.specs.declared.Checked.{Checked}
+use Rattle.model.specs.declared.Checked.the-variants.{Refused, Accepted}
+use Rattle.model.specs.declared.Content.{Content}
+use Rattle.model.specs.declared.Content.the-variants.{Text, Plain}
 use Rattle.model.specs.declared.SdoRequest.{SdoRequest}
 use Rattle.model.specs.declared.SdoRequest.the-variants as R
 use Rattle.model.specs.declared.Frame.{Frame}
@@ -29,7 +33,7 @@ use Rattle.model.specs.Frames.{full, sdoReplies}
 use Rattle.model.specs.Settings.{row, same, judge, isInside, inForce}
 use Rattle.model.specs.Validity.{valid, validityOf, A5h}
 use Rattle.model.specs.Parts.{withUpload, openUpload, noUpload, idOf, isStopped, isOperational}
-use Rattle.model.specs.Dictionary.{find, name, contentOf, Content, text, value}
+use Rattle.model.specs.Dictionary.{find, name, contentOf}
 
 -- ---- Abort codes
 
@@ -142,10 +146,22 @@ asked (At (Setting p)) d = Write p (decoded (row p .kind) d)
 asked (At (SaveWord gs)) d = Save gs
 asked (At (LoadWord gs)) d = TakeOut gs
 
--- a download alone changes anything
+-- a write that was checked: refused with its code, or accepted with what it changes
+unfoldable pub checkedWrite : Found → ℕ → ℕ → State → Checked
+checkedWrite f size d s = let code = writeCode f size d s in cond (eqb code accepted) (Accepted (asked f d)) (Refused code)
+
+-- the number of each answer, and its change
+abbrev pub codeOf : Checked → ℕ
+codeOf (Refused code) = code
+codeOf (Accepted c) = accepted
+
+abbrev pub changeIn : Checked → Change
+changeIn (Refused code) = Keep
+changeIn (Accepted c) = c
+
+-- of all requests a download alone changes anything
 unfoldable pub sdoChange : SdoRequest → State → Change
-sdoChange (R.Download index sub size d) s =
-    cond (eqb (writeCode (find index sub) size d s) accepted) (asked (find index sub) d) Keep
+sdoChange (R.Download index sub size d) s = changeIn (checkedWrite (find index sub) size d s)
 sdoChange (R.Upload index sub) s = Keep
 sdoChange (R.UploadSegment toggle) s = Keep
 sdoChange R.ClientAbort s = Keep
@@ -180,8 +196,8 @@ expedited K.Real32 = 0x43
 
 -- the reply that begins an upload: the name's length, since it goes by segments, or the value
 abbrev pub uploaded : Content → ℕ → ℕ → State → Frame
-uploaded text index sub s = replied s (headed 0x41 index sub (le 4 (length name)))
-uploaded (value v) index sub s = replied s (headed (expedited (kindOf v)) index sub (encoded v))
+uploaded Text index sub s = replied s (headed 0x41 index sub (le 4 (length name)))
+uploaded (Plain v) index sub s = replied s (headed (expedited (kindOf v)) index sub (encoded v))
 
 -- a read has only the first two of the checks
 abbrev pub readFrom : Found → ℕ → ℕ → State → Frame
@@ -234,12 +250,13 @@ abbrev pub serves : ℕ → State → Bool
 serves to s = eqb to (idOf s) && not (isStopped (s .core))
 
 -- the reply to a write
-unfoldable pub writeReply : ℕ → ℕ → ℕ → State → Frame
-writeReply code index sub s = cond (eqb code accepted) (acknowledged index sub s) (aborted index sub code s)
+abbrev pub writeReply : Checked → ℕ → ℕ → State → Frame
+writeReply (Refused code) index sub s = aborted index sub code s
+writeReply (Accepted c) index sub s = acknowledged index sub s
 
 -- the reply to each request; a client's abort has none
 unfoldable pub sdoReply : SdoRequest → State → List Frame
-sdoReply (R.Download index sub size d) s = writeReply (writeCode (find index sub) size d s) index sub s ∷ []
+sdoReply (R.Download index sub size d) s = writeReply (checkedWrite (find index sub) size d s) index sub s ∷ []
 sdoReply (R.Upload index sub) s = readFrom (find index sub) index sub s ∷ []
 sdoReply (R.UploadSegment toggle) s = segmentReply toggle s ∷ []
 sdoReply R.ClientAbort s = []

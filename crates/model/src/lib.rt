@@ -123,6 +123,12 @@ pub enum Found {
     At(Entry),
 }
 
+// What an entry reads as: the name, which is a string, or a value.
+pub enum Content {
+    Text,
+    Plain(Value),
+}
+
 // ---- What an event asks, by its bytes alone
 
 // An SDO request. A download's size is 0 where it is not indicated; its data are the four bytes, low first.
@@ -181,6 +187,12 @@ pub enum Change {
     TakeOut(Groups),
     Load(Groups, u8),
     SavePending,
+}
+
+// The answer of the write checks: the abort code, or the change that the write makes.
+pub enum Checked {
+    Refused(u32),
+    Accepted(Change),
 }
 
 // ---- Time
