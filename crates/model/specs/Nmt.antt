@@ -50,6 +50,7 @@ isFor to id = eqb to 0 || eqb to id
 unfoldable pub lssLeft : Core → Selection
 lssLeft c = cond (isPreOperational c) noSelection (c .lss)
 
+-- into another NMT state than Pre-operational
 abbrev pub leaveFor : ℕ → Core → Core
 leaveFor n c = withNmt (withLss c (lssLeft c)) n
 
@@ -65,6 +66,7 @@ start k c = cond (not (isOperational c) && startObeyed k) (restartSrdo (restartT
 unfoldable pub stop : Core → Core
 stop c = withUpload (leaveFor Stopped c) noUpload
 
+-- the command Pre-operational; it ends nothing
 abbrev pub preOperational : Core → Core
 preOperational c = withNmt c PreOperational
 
@@ -78,6 +80,7 @@ obeyed command k c =
     ∷ [])
     c
 
+-- a command for another node does nothing
 unfoldable pub commanded : ℕ → ℕ → State → Core
 commanded command to s = cond (isFor to (idOf s)) (obeyed command (s .settings) (s .core)) (s .core)
 

@@ -37,12 +37,15 @@ use Rattle.model.specs.Dictionary.{find, name, contentOf}
 
 -- ---- Abort codes
 
+-- a segment request whose toggle is not the upload's
 abbrev pub wrongToggle : ℕ
 wrongToggle = 0x05030000
 
+-- a command byte that is not served, a download that is not expedited, a segment request where no upload is open
 abbrev pub unknownCommand : ℕ
 unknownCommand = 0x05040001
 
+-- no object at the index; no sub of it
 abbrev pub noObject : ℕ
 noObject = 0x06020000
 
@@ -52,15 +55,18 @@ noSub = 0x06090011
 abbrev pub readOnly : ℕ
 readOnly = 0x06010002
 
+-- an entry marked * while Operational
 abbrev pub locked : ℕ
 locked = 0x08000022
 
+-- more bytes than the entry has; fewer
 abbrev pub tooLong : ℕ
 tooLong = 0x06070012
 
 abbrev pub tooShort : ℕ
 tooShort = 0x06070013
 
+-- a Real32 that is not finite, a COB-ID or a type outside its set; above the range; below it
 abbrev pub invalidValue : ℕ
 invalidValue = 0x06090030
 
@@ -70,9 +76,11 @@ tooHigh = 0x06090031
 abbrev pub tooLow : ℕ
 tooLow = 0x06090032
 
+-- not the word that saves, or that loads defaults
 abbrev pub wrongWord : ℕ
 wrongWord = 0x08000020
 
+-- A5h where the validity byte would be false
 abbrev pub notValid : ℕ
 notValid = 0x06040043
 
@@ -136,6 +144,7 @@ writeCode (At (LoadWord gs)) size d s = firstHit (accessChecks true K.U32 size s
 
 -- ---- What a write changes, if it is accepted
 
+-- a parameter's value, a save of some groups, or their records taken out
 abbrev pub asked : Found → ℕ → Change
 asked NoObject d = Keep
 asked NoSub d = Keep

@@ -74,6 +74,7 @@ secondCob id = cond (ltb 64 id) 0x180 (0x100 + 2 * id)
 
 -- ---- The table
 
+-- number, mark *, type, range, default, group
 abbrev pub row : Parameter → Row
 row P1017 = line 0 free K.U16 all (is (U16 0)) C
 row P1301s1 = line 1 starred K.U8 (between 0 1) (is (U8 1)) C

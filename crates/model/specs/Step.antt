@@ -36,6 +36,7 @@ use Rattle.model.specs.Rules.{rules}
 
 -- ---- The refusals, lowest number first
 
+-- 0 is done; the others each have a row of the table below
 abbrev pub done : ℕ
 done = 0
 

@@ -76,6 +76,7 @@ emcyFrame s = full (emcys + idOf s) (le 2 (cond (capped s) 0xff01 0) ++ (errorRe
 
 -- ---- What a transmission type sends at
 
+-- 0 at a SYNC after a new sample, 1..240 at each n-th SYNC, 252 and 253 at a remote frame, 254 and 255 by the event timer
 unfoldable pub transmission : ℕ → Transmission
 transmission k =
     firstHit
@@ -148,6 +149,7 @@ tickFrames s = let t = clocked s in firing (heartbeatDue t) (tpdoDue t) (srdoDue
 
 -- ---- A sample: FV, and a new sample since the last TPDO
 
+-- in every NMT state, and also where FV is the same again
 abbrev pub sampled : Fv → Core → Core
 sampled fv c = withTpdo (withFv c fv) (sending (c .tpdo .syncs) true)
 
