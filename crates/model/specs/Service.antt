@@ -20,20 +20,21 @@ use Rattle.model.specs.Frames.{kindOfEvent, sampleIn, canId, flagIn, len
 unfoldable pub sizeIn : ℕ → ℕ
 sizeIn b = cond (eqb (b % 2) 1) (4 - b / 4 % 4) 0
 
--- by the top three bits of byte 0. A download must be expedited; bits that a request does not use are ignored
-unfoldable pub sdoRequest : List ℕ → SdoRequest
-sdoRequest e =
-    let first = dataAt 0 e in
-    let index = dataNumber 1 2 e in
-    let sub = dataAt 3 e in
+-- by the top three bits of byte 0; index, sub and the four data bytes follow it. A download must be expedited; bits that a request does not use
+-- are ignored
+abbrev pub sdoBy : ℕ → ℕ → ℕ → ℕ → SdoRequest
+sdoBy first index sub four =
     firstHit
     ((eqb (first / 32) 0 ⇒ DownloadSegment)
-    ∷ (eqb (first / 32) 1 && eqb (first / 2 % 2) 1 ⇒ Download index sub (sizeIn first) (dataNumber 4 4 e))
+    ∷ (eqb (first / 32) 1 && eqb (first / 2 % 2) 1 ⇒ Download index sub (sizeIn first) four)
     ∷ (eqb (first / 32) 2 ⇒ Upload index sub)
     ∷ (eqb (first / 32) 3 ⇒ UploadSegment (first / 16 % 2))
     ∷ (eqb (first / 32) 4 ⇒ ClientAbort)
     ∷ [])
     (Unknown index sub)
+
+unfoldable pub sdoRequest : List ℕ → SdoRequest
+sdoRequest e = sdoBy (dataAt 0 e) (dataNumber 1 2 e) (dataAt 3 e) (dataNumber 4 4 e)
 
 -- ---- LSS
 
@@ -63,20 +64,22 @@ lssActiveId = 0x5e
 abbrev pub ofFour : ℕ → ℕ → Bool
 ofFour first command = within first (first + 3) command
 
--- by byte 0
-unfoldable pub lssRequest : List ℕ → LssRequest
-lssRequest e =
-    let command = dataAt 0 e in
+-- by byte 0; the bytes after it, two of them or a number of four, are what the command takes
+abbrev pub lssBy : ℕ → ℕ → ℕ → ℕ → LssRequest
+lssBy command one two number =
     firstHit
-    ((eqb command lssMode ⇒ SwitchMode (dataAt 1 e))
-    ∷ (ofFour lssSelect command ⇒ Select (command - lssSelect) (dataNumber 1 4 e))
-    ∷ (eqb command lssNodeId ⇒ SetNodeId (dataAt 1 e))
-    ∷ (eqb command lssBitIndex ⇒ SetBitIndex (dataAt 1 e) (dataAt 2 e))
+    ((eqb command lssMode ⇒ SwitchMode one)
+    ∷ (ofFour lssSelect command ⇒ Select (command - lssSelect) number)
+    ∷ (eqb command lssNodeId ⇒ SetNodeId one)
+    ∷ (eqb command lssBitIndex ⇒ SetBitIndex one two)
     ∷ (eqb command lssStore ⇒ StorePending)
     ∷ (ofFour lssIdentity command ⇒ AskIdentity (command - lssIdentity))
     ∷ (eqb command lssActiveId ⇒ AskNodeId)
     ∷ [])
     OtherLss
+
+unfoldable pub lssRequest : List ℕ → LssRequest
+lssRequest e = lssBy (dataAt 0 e) (dataAt 1 e) (dataAt 2 e) (dataNumber 1 4 e)
 
 -- ---- Frames and events
 
