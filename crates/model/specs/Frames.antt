@@ -4,6 +4,7 @@ use mathlib.Core.Bool.{Bool, true, false}
 use mathlib.Core.List.{List, [], _∷_, _++_}
 use lib.ListN.{length, take, drop}
 use Rattle.model.specs.declared.Frame.{Frame}
+use Rattle.model.specs.declared.Reply.{Reply}
 use Rattle.model.specs.Bytes.{byteAt, numberAt}
 
 -- ---- An event is 13 bytes: its kind (1 a frame, 2 a tick, 3 a sample), then twelve
@@ -108,6 +109,10 @@ frameBytes f = f .id % 256 ∷ f .id / 256 ∷ 0 ∷ f .len ∷ dataBytes f
 abbrev pub when : Bool → Frame → List Frame
 when true f = f ∷ []
 when false f = []
+
+-- the frames of a reply
+abbrev pub framesOf : Reply → List Frame
+framesOf r = when (r .send) (r .frame)
 
 -- ---- Where frames are laid
 

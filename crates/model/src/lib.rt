@@ -231,6 +231,13 @@ pub struct Frame {
     pub d7: u8,
 }
 
+// At most one frame: what a service sends, where it sends anything.
+#[repr(C)]
+pub struct Reply {
+    pub send: bool,
+    pub frame: Frame,
+}
+
 // ---- The state: identity, the saved parameters in force, and all the rest
 
 // 1018h:1..4.
