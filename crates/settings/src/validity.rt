@@ -1,6 +1,7 @@
 // The ranges, the signatures and the validity bytes of the two groups. Any float may be a NaN or an infinity.
 use super::table::judge;
 use super::table::value_of;
+use super::values::word;
 use model::Parameter;
 use model::Settings;
 use model::Verdict;
@@ -70,76 +71,59 @@ fn crc_c(k: Settings) -> u16
     ensures { λ r. ⌜ r ≡ crcOf (Table.bytesOf (Validity.covered G.C) (Table.inForce k) ++ Validity.mappings G.C) ⌝ }
 {
     let refresh = k.communication.srdo.refresh;
-    let first = k.communication.srdo.first;
-    let first1 = first / 256;
-    let first2 = first1 / 256;
-    let first3 = first2 / 256;
-    let second = k.communication.srdo.second;
-    let second1 = second / 256;
-    let second2 = second1 / 256;
-    let second3 = second2 / 256;
-    crc(
-        &[
-            k.communication.srdo.direction,
-            (refresh % 256) as u8,
-            (refresh / 256) as u8,
-            k.communication.srdo.validation,
-            (first % 256) as u8,
-            (first1 % 256) as u8,
-            (first2 % 256) as u8,
-            (first3 % 256) as u8,
-            (second % 256) as u8,
-            (second1 % 256) as u8,
-            (second2 % 256) as u8,
-            (second3 % 256) as u8,
-            2,
-            1,
-            0x20,
-            0x01,
-            0x30,
-            0x50,
-            2,
-            0x20,
-            0x02,
-            0x30,
-            0x50,
-        ],
-    )
+    let first = word(k.communication.srdo.first);
+    let second = word(k.communication.srdo.second);
+    let bytes = [
+        k.communication.srdo.direction,
+        (refresh % 256) as u8,
+        (refresh / 256) as u8,
+        k.communication.srdo.validation,
+        first[0],
+        first[1],
+        first[2],
+        first[3],
+        second[0],
+        second[1],
+        second[2],
+        second[3],
+        2,
+        1,
+        0x20,
+        0x01,
+        0x30,
+        0x50,
+        2,
+        0x20,
+        0x02,
+        0x30,
+        0x50,
+    ];
+    crc(&bytes)
 }
 
 // The CRC of what 51FFh:1 signs: 6121h, 6123h, 6124h, 6132h.
 fn crc_a(k: Settings) -> u16
     ensures { λ r. ⌜ r ≡ crcOf (Table.bytesOf (Validity.covered G.A) (Table.inForce k) ++ Validity.mappings G.A) ⌝ }
 {
-    let low = bits_of(k.application.scaling.low);
-    let high = bits_of(k.application.scaling.high);
-    let offset = bits_of(k.application.scaling.offset);
-    let low1 = low / 256;
-    let low2 = low1 / 256;
-    let low3 = low2 / 256;
-    let high1 = high / 256;
-    let high2 = high1 / 256;
-    let high3 = high2 / 256;
-    let offset1 = offset / 256;
-    let offset2 = offset1 / 256;
-    let offset3 = offset2 / 256;
-    crc(
-        &[
-            (low % 256) as u8,
-            (low1 % 256) as u8,
-            (low2 % 256) as u8,
-            (low3 % 256) as u8,
-            (high % 256) as u8,
-            (high1 % 256) as u8,
-            (high2 % 256) as u8,
-            (high3 % 256) as u8,
-            (offset % 256) as u8,
-            (offset1 % 256) as u8,
-            (offset2 % 256) as u8,
-            (offset3 % 256) as u8,
-            k.application.digits,
-        ],
-    )
+    let low = word(bits_of(k.application.scaling.low));
+    let high = word(bits_of(k.application.scaling.high));
+    let offset = word(bits_of(k.application.scaling.offset));
+    let bytes = [
+        low[0],
+        low[1],
+        low[2],
+        low[3],
+        high[0],
+        high[1],
+        high[2],
+        high[3],
+        offset[0],
+        offset[1],
+        offset[2],
+        offset[3],
+        k.application.digits,
+    ];
+    crc(&bytes)
 }
 
 // ---- The validity bytes

@@ -77,7 +77,7 @@ pub fn decode(k: Kind, d: u32) -> Value
 }
 
 // The four bytes of a number, low byte first.
-fn word(n: u32) -> [u8; 4]
+pub fn word(n: u32) -> [u8; 4]
     ensures { λ r. ⌜ r ≡ le 4 n ⌝ }
 {
     let n1 = n / 256;
