@@ -1,6 +1,8 @@
 // Which records are accepted: each absent, or of its size with every value in range and no false validity byte.
 use super::codec::decode_a;
 use super::codec::decode_c;
+use settings::validity::sound_a;
+use settings::validity::sound_c;
 use model::Application;
 use model::Communication;
 use model::Scaling;
@@ -81,4 +83,46 @@ fn blank() -> Settings
             signature: 0,
         },
     }
+}
+
+// The contents of a C.
+fn sound_record_c(r: &[u8]) -> bool
+    ensures { λ b. ⌜ b ≡ soundRecord Group.C (now (r .entry)) ⌝ }
+{
+    let id = is_node_id(byte(r, 0));
+    let sound = sound_c(decode_c(r, blank()));
+    id & sound
+}
+
+// C.
+pub fn ok_c(r: &[u8]) -> bool
+    ensures { λ b. ⌜ b ≡ ok Group.C (now (r .entry)) ⌝ }
+{
+    if r.len() == 0 {
+        return true;
+    }
+    if r.len() != 21 {
+        return false;
+    }
+    sound_record_c(r)
+}
+
+// The contents of an A.
+fn sound_record_a(r: &[u8]) -> bool
+    ensures { λ b. ⌜ b ≡ soundRecord Group.A (now (r .entry)) ⌝ }
+{
+    sound_a(decode_a(r, blank()))
+}
+
+// A.
+pub fn ok_a(r: &[u8]) -> bool
+    ensures { λ b. ⌜ b ≡ ok Group.A (now (r .entry)) ⌝ }
+{
+    if r.len() == 0 {
+        return true;
+    }
+    if r.len() != 17 {
+        return false;
+    }
+    sound_record_a(r)
 }
