@@ -1,0 +1,42 @@
+-- `settings::change::write` meets its contract: one parameter is set, then validity bytes; law `in-two-steps`. Assumes nothing.
+use borrow.Author.Needs.{needs}
+use Rattle.settings.proofs.Changed.{in-two-steps}
+use Rattle.settings.proofs.change.write.Statement.{statement}
+use Rattle.settings.proofs.change.write.Tie as tie
+
+number-of-requires : tie.Need-number-of-requires
+number-of-requires c κs = search needs
+
+value-of-requires : tie.Need-value-of-requires
+value-of-requires c κs = search needs
+
+number-of-requires-2 : tie.Need-number-of-requires-2
+number-of-requires-2 c κs = search needs
+
+unmarks-c-requires : tie.Need-unmarks-c-requires
+unmarks-c-requires c κs = search needs
+
+unmarks-a-requires : tie.Need-unmarks-a-requires
+unmarks-a-requires c κs = search needs
+
+put-requires : tie.Need-put-requires
+put-requires c κs = c .before .before .before .before .before .pre
+
+unmark-requires : tie.Need-unmark-requires
+unmark-requires c κs = search needs
+
+returns : tie.Need-returns
+returns c = rw (c .unmark .ensures, c .before .put .ensures, c .before .before .unmarks-a .ensures, c .before .before .before .unmarks-c .ensures, c .before .before .before .before .number-of2 .ensures, c .before .before .before .before .before .value-of .ensures, c .before .before .before .before .before .before .number-of .ensures) (in-two-steps (c .before .before .before .before .before .before .before .args .p) (c .before .before .before .before .before .before .before .args .v) (c .before .before .before .before .before .before .before .args .k))
+
+pub write-spec : {M : Type 1} → statement M
+write-spec =
+    tie.close
+    (tie.spec
+    number-of-requires
+    value-of-requires
+    number-of-requires-2
+    unmarks-c-requires
+    unmarks-a-requires
+    put-requires
+    unmark-requires
+    returns)
