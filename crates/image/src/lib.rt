@@ -1,9 +1,7 @@
 // The store's image of 64 bytes: written anew of the records N, C and A, and tested. An absent record is an empty slice.
 ghost use mathlib.Core.Path.{_≡_};
-ghost use mathlib.Core.Bool.{cond};
 ghost use mathlib.Core.List.{_++_};
 ghost use Prim.Native.Nat.{_+_, _≤_, _<_};
-ghost use lib.Dec.{eqb};
 ghost use lib.ListN.{length, take};
 ghost use Rattle.model.specs.Bytes.{le, part, sameBytes};
 ghost use Rattle.model.specs.Signature.{crcOf};

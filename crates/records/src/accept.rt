@@ -1,14 +1,14 @@
 // Which records are accepted: each absent, or of its size with every value in range and no false validity byte.
 use super::codec::decode_a;
 use super::codec::decode_c;
-use settings::validity::sound_a;
-use settings::validity::sound_c;
 use model::Application;
 use model::Communication;
 use model::Scaling;
 use model::Settings;
 use model::SrdoSettings;
 use model::TpdoSettings;
+use settings::validity::sound_a;
+use settings::validity::sound_c;
 use wire::bytes::byte;
 ghost use mathlib.Core.Path.{_≡_};
 ghost use Rattle.model.specs.declared.Group.the-variants as Group;

@@ -1,16 +1,16 @@
 -- The saved records are the parts of the image that the sizes say: one law for each of N, C and A, by whether the image is good. Assumes nothing.
 use Prim.Native.Nat.{ℕ, _+_}
-use mathlib.Core.Path.{_≡_, refl, ap, sym, _∙_}
+use mathlib.Core.Path.{_≡_, refl, ap, _∙_}
 use mathlib.Core.Bool.{Bool, true, false, _&&_}
 use mathlib.Core.List.{List, [], _∷_}
 use native.Mathlib.Omega.{arith}
 use lib.ListN.{length}
 use Rattle.model.specs.declared.Group.the-variants.{C, A}
 use Rattle.model.specs.Bytes.{part, sameBytes}
-use Rattle.model.specs.Store.{nIn, cIn, aIn, isGood, savedIf, read, savedN, saved, orElse, build, okN, ok}
+use Rattle.model.specs.Store.{sizeOfRecord, factoryPlace, nIn, cIn, aIn, isGood, savedIf, read, savedN, saved, orElse, build, okN, ok}
 use Rattle.image.specs.declared.Sizes.{Sizes}
 use Rattle.image.specs.Sizes.{sizesIn, Sized}
-use Rattle.store.specs.Saved.{sizesIf, Kept}
+use Rattle.store.specs.Saved.{sizesIf, Kept, partFor, GroupPart}
 
 n-by : (image : List ℕ) (b : Bool) → part 0 (sizesIf b (sizesIn image) .n) image ≡ savedN (savedIf b (nIn image) (cIn image) (aIn image))
 unfolding nIn part
@@ -42,6 +42,15 @@ module _ (image : List ℕ) (s : Sizes) (k : Kept image s) where
   pub a-part : part (s .n + s .c) (s .a) image ≡ saved A (read image)
   unfolding read
   a-part = ap (λ (t : Sizes). part (t .n + t .c) (t .a) image) (k .told) ∙ a-by image (isGood image)
+
+  -- a group is the part that the sizes say, of the image or of a block
+  pub group-c : (block r : List ℕ) → r ≡ partFor C image block s → GroupPart C image block s r
+  group-c block r e =
+      record { which = e; is-group = e ∙ ap (λ (l : List ℕ). orElse l (part (factoryPlace C) (sizeOfRecord C) block)) c-part }
+
+  pub group-a : (block r : List ℕ) → r ≡ partFor A image block s → GroupPart A image block s r
+  group-a block r e =
+      record { which = e; is-group = e ∙ ap (λ (l : List ℕ). orElse l (part (factoryPlace A) (sizeOfRecord A) block)) a-part }
 
 -- the two tests of an image, on the sizes that its trailer tells, are the definition's
 pub tests : (image : List ℕ) (s : Sizes) (own fine : Bool) → s ≡ sizesIn image

@@ -1,4 +1,5 @@
 // Loads: a group is that part of the store or, where it is absent, of the factory block.
+use super::saved::saved_sizes;
 use image::Sizes;
 use model::Address;
 use model::Groups;
@@ -10,7 +11,6 @@ use records::codec::encode_c;
 use settings::table::defaults;
 use settings::table::first_cob;
 use settings::table::second_cob;
-use super::saved::saved_sizes;
 use wire::bytes::byte;
 use wire::bytes::copy;
 use wire::bytes::part_of;

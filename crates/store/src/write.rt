@@ -1,4 +1,5 @@
 // Writing: always the whole image anew, which keeps the other records of a good store.
+use super::saved::saved_sizes;
 use image::write_image;
 use model::Address;
 use model::Groups;
@@ -6,7 +7,6 @@ use model::Settings;
 use records::codec::encode_a;
 use records::codec::encode_c;
 use records::codec::encode_n;
-use super::saved::saved_sizes;
 use wire::bytes::copy;
 use wire::bytes::part_of;
 ghost use mathlib.Core.Path.{_≡_};
@@ -85,7 +85,7 @@ fn renew<'a>(
 // ---- The three writes
 
 // Whether group C is one of these.
-pub fn has_c(gs: Groups) -> bool
+fn has_c(gs: Groups) -> bool
     ensures { λ r. ⌜ r ≡ has gs Group.C ⌝ }
 {
     match gs {
@@ -96,7 +96,7 @@ pub fn has_c(gs: Groups) -> bool
 }
 
 // Whether group A is one of these.
-pub fn has_a(gs: Groups) -> bool
+fn has_a(gs: Groups) -> bool
     ensures { λ r. ⌜ r ≡ has gs Group.A ⌝ }
 {
     match gs {

@@ -1,6 +1,5 @@
 -- `codec::encode_a` meets its contract: both sides compute to the same 17 bytes, of which three are whole numbers of a byte. Assumes nothing.
-use mathlib.Core.Path.{_≡_}
-use Prim.Native.Nat.{_<_, _%_}
+use Prim.Native.Nat.{_<_}
 use native.Mathlib.Omega.{arith}
 use native.Mathlib.Nat.{mod-eq-of-lt}
 use Rattle.model.specs.Bytes.{le}

@@ -1,6 +1,5 @@
 -- `codec::encode_c` meets its contract: both sides compute to the same 21 bytes, of which four are whole numbers of a byte. Assumes nothing.
-use mathlib.Core.Path.{_≡_}
-use Prim.Native.Nat.{_<_, _%_}
+use Prim.Native.Nat.{_<_}
 use native.Mathlib.Omega.{arith}
 use native.Mathlib.Nat.{mod-eq-of-lt}
 use Rattle.model.specs.Bytes.{le}

@@ -1,5 +1,4 @@
 -- `load::factory` meets its contract: the records of the defaults, one behind the other. Assumes nothing.
-use denote.Ref.{now}
 use mathlib.Core.Path.{_∙_}
 use Rattle.model.specs.Store.{recordOf, factory}
 use Rattle.store.proofs.Loads.{defaults-in-force, block}

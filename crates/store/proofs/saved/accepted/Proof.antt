@@ -26,13 +26,13 @@ ok-a-requires c κs = search needs
 
 returns : tie.Need-returns
 returns c = rw (
-      c .ok-a .ensures,
-      c .before .part-of3 .ensures .0,
-      c .before .before .ok-c .ensures,
-      c .before .before .before .part-of2 .ensures .0,
-      c .before .before .before .before .ok-n .ensures,
-      c .before .before .before .before .before .part-of .ensures .0,
-    )
+  c .ok-a .ensures,
+  c .before .part-of3 .ensures .0,
+  c .before .before .ok-c .ensures,
+  c .before .before .before .part-of2 .ensures .0,
+  c .before .before .before .before .ok-n .ensures,
+  c .before .before .before .before .before .part-of .ensures .0,
+)
 
 pub accepted-spec : {M : Type 1} → statement M
 accepted-spec =
