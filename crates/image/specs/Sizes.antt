@@ -1,0 +1,29 @@
+-- An image by the sizes of its records. Assumes nothing.
+use Prim.Native.Nat.{ℕ, _≤_}
+use mathlib.Core.Path.{_≡_}
+use mathlib.Core.Bool.{cond}
+use mathlib.Core.List.{List}
+use lib.Dec.{eqb}
+use Rattle.model.specs.declared.Group.the-variants.{C, A}
+use Rattle.model.specs.Store.{sizeN, sizeOfRecord, lengthAt}
+use Rattle.image.specs.declared.Sizes.{Sizes}
+
+-- the place of a record of this size, as the trailer has it
+abbrev pub placeBy : ℕ → ℕ → ℕ
+placeBy size at = cond (eqb size 0) 0xffff at
+
+-- the sizes of the records that the trailer of an image tells
+abbrev pub sizesIn : List ℕ → Sizes
+sizesIn image =
+    record {
+      n = lengthAt 60 sizeN image;
+      c = lengthAt 56 (sizeOfRecord C) image;
+      a = lengthAt 58 (sizeOfRecord A) image;
+    }
+
+-- s are those sizes, each at most its record's
+pub record Sized (image : List ℕ) (s : Sizes) : Type 0 where
+  pub told : s ≡ sizesIn image
+  pub n-most : s .n ≤ 2
+  pub c-most : s .c ≤ 21
+  pub a-most : s .a ≤ 17
