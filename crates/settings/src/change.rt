@@ -18,8 +18,9 @@ ghost use Rattle.model.specs.Store.{nothing};
 ghost use Rattle.model.specs.Changes.{applied};
 ghost use Rattle.settings.specs.Put as Put;
 
-// ---- One parameter set, by its width
+// ---- One parameter set, by its type: what the caller shows is that the parameter has that type
 
+// A parameter of one byte.
 fn put8(k: Settings, p: Parameter, n: u8) -> Settings
     requires { ⌜ K.U8 ≡ row p .kind ⌝ }
     ensures { λ r. ⌜ r ≡ Put.put p (Typed.U8 n) k ⌝ }
@@ -58,6 +59,7 @@ fn put8(k: Settings, p: Parameter, n: u8) -> Settings
     }
 }
 
+// One of two bytes.
 fn put16(k: Settings, p: Parameter, n: u16) -> Settings
     requires { ⌜ K.U16 ≡ row p .kind ⌝ }
     ensures { λ r. ⌜ r ≡ Put.put p (Typed.U16 n) k ⌝ }
@@ -88,6 +90,7 @@ fn put16(k: Settings, p: Parameter, n: u16) -> Settings
     }
 }
 
+// One of four: the COB-IDs.
 fn put32(k: Settings, p: Parameter, n: u32) -> Settings
     requires { ⌜ K.U32 ≡ row p .kind ⌝ }
     ensures { λ r. ⌜ r ≡ Put.put p (Typed.U32 n) k ⌝ }
@@ -106,6 +109,7 @@ fn put32(k: Settings, p: Parameter, n: u32) -> Settings
     }
 }
 
+// A Real32.
 fn put_real(k: Settings, p: Parameter, x: f32) -> Settings
     requires { ⌜ K.Real32 ≡ row p .kind ⌝ }
     ensures { λ r. ⌜ r ≡ Put.put p (Typed.Real32 x) k ⌝ }

@@ -44,7 +44,8 @@ unfolding put
 returns-5 c = rw (c .before .enum-told5 .given .1)
 
 returns-6 : tie.Need-returns-6
-returns-6 c = absurd (no-such K.U16 (1 ∷ 3 ∷ 4 ∷ 5 ∷ 6 ∷ 8 ∷ 10 ∷ 11 ∷ 12 ∷ 13 ∷ 14 ∷ 15 ∷ []) (c .before .args .p) (c .match .keys6) refl (c .before .pre))
+returns-6 c =
+    absurd (no-such K.U16 (1 ∷ 3 ∷ 4 ∷ 5 ∷ 6 ∷ 8 ∷ 10 ∷ 11 ∷ 12 ∷ 13 ∷ 14 ∷ 15 ∷ []) (c .before .args .p) (c .match .keys6) refl (c .before .pre))
 
 pub put16-spec : {M : Type 1} → statement M
 put16-spec =

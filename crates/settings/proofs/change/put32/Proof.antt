@@ -23,7 +23,9 @@ unfolding put
 returns-2 c = rw (c .before .enum-told2 .given .1)
 
 returns-3 : tie.Need-returns-3
-returns-3 c = absurd (no-such K.U32 (0 ∷ 1 ∷ 2 ∷ 3 ∷ 6 ∷ 7 ∷ 8 ∷ 9 ∷ 10 ∷ 11 ∷ 12 ∷ 13 ∷ 14 ∷ 15 ∷ 16 ∷ []) (c .before .args .p) (c .match .keys3) refl (c .before .pre))
+returns-3 c =
+    absurd (no-such K.U32 (0 ∷ 1 ∷ 2 ∷ 3 ∷ 6 ∷ 7 ∷ 8 ∷ 9 ∷ 10 ∷ 11 ∷ 12 ∷ 13 ∷ 14 ∷ 15 ∷ 16 ∷ []) (c .before .args .p)
+    (c .match .keys3) refl (c .before .pre))
 
 pub put32-spec : {M : Type 1} → statement M
 put32-spec = tie.close (tie.spec enum-told enum-told-2 returns returns-2 returns-3)

@@ -30,7 +30,9 @@ unfolding put
 returns-3 c = rw (c .before .enum-told3 .given .1)
 
 returns-4 : tie.Need-returns-4
-returns-4 c = absurd (no-such K.Real32 (0 ∷ 1 ∷ 2 ∷ 3 ∷ 4 ∷ 5 ∷ 6 ∷ 7 ∷ 8 ∷ 9 ∷ 10 ∷ 14 ∷ 15 ∷ 16 ∷ []) (c .before .args .p) (c .match .keys4) refl (c .before .pre))
+returns-4 c =
+    absurd (no-such K.Real32 (0 ∷ 1 ∷ 2 ∷ 3 ∷ 4 ∷ 5 ∷ 6 ∷ 7 ∷ 8 ∷ 9 ∷ 10 ∷ 14 ∷ 15 ∷ 16 ∷ []) (c .before .args .p)
+    (c .match .keys4) refl (c .before .pre))
 
 pub put-real-spec : {M : Type 1} → statement M
 put-real-spec =

@@ -26,7 +26,18 @@ unmark-requires : tie.Need-unmark-requires
 unmark-requires c κs = search needs
 
 returns : tie.Need-returns
-returns c = rw (c .unmark .ensures, c .before .put .ensures, c .before .before .unmarks-a .ensures, c .before .before .before .unmarks-c .ensures, c .before .before .before .before .number-of2 .ensures, c .before .before .before .before .before .value-of .ensures, c .before .before .before .before .before .before .number-of .ensures) (in-two-steps (c .before .before .before .before .before .before .before .args .p) (c .before .before .before .before .before .before .before .args .v) (c .before .before .before .before .before .before .before .args .k))
+returns c =
+    rw (
+      c .unmark .ensures,
+      c .before .put .ensures,
+      c .before .before .unmarks-a .ensures,
+      c .before .before .before .unmarks-c .ensures,
+      c .before .before .before .before .number-of2 .ensures,
+      c .before .before .before .before .before .value-of .ensures,
+      c .before .before .before .before .before .before .number-of .ensures,
+    )
+    (in-two-steps (c .before .before .before .before .before .before .before .args .p)
+    (c .before .before .before .before .before .before .before .args .v) (c .before .before .before .before .before .before .before .args .k))
 
 pub write-spec : {M : Type 1} → statement M
 write-spec =

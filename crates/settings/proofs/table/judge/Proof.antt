@@ -56,7 +56,10 @@ judge-between-requires-4 : tie.Need-judge-between-requires-4
 judge-between-requires-4 c κs = search needs
 
 returns : tie.Need-returns
-returns c = c .judge-between .ensures ∙ ap (λ (r : Range). judge r (c .before .before .before .args .v)) (of-each (λ p. row p .range) (between 0 1) (1 ∷ 10 ∷ []) (c .before .before .before .args .p) (c .before .match .keys1) refl)
+returns c =
+    c .judge-between .ensures
+    ∙ ap (λ (r : Range). judge r (c .before .before .before .args .v)) (of-each (λ p. row p .range) (between 0 1) (1 ∷ 10 ∷ [])
+    (c .before .before .before .args .p) (c .before .match .keys1) refl)
 
 returns-2 : tie.Need-returns-2
 returns-2 c = rw (c .judge-between2 .ensures, c .before .enum-told .given .1)
@@ -78,14 +81,18 @@ returns-6 c = rw (c .judge-member3 .ensures, c .before .before .before .number-o
 
 returns-7 : tie.Need-returns-7
 unfolding judge
-returns-7 c = rw (c .judge-real .ensures, c .before .float-of .ensures) (ap (λ (r : Range). judge r (c .before .before .before .before .args .v)) (of-each (λ p. row p .range) real (11 ∷ 12 ∷ 13 ∷ []) (c .before .before .before .before .args .p) (c .before .before .match .keys7) refl))
+returns-7 c =
+    rw (c .judge-real .ensures, c .before .float-of .ensures) (ap (λ (r : Range). judge r (c .before .before .before .before .args .v))
+    (of-each (λ p. row p .range) real (11 ∷ 12 ∷ 13 ∷ []) (c .before .before .before .before .args .p) (c .before .before .match .keys7) refl))
 
 returns-8 : tie.Need-returns-8
 returns-8 c = rw (c .judge-between4 .ensures, c .before .enum-told6 .given .1)
 
 returns-9 : tie.Need-returns-9
 unfolding judge
-returns-9 c = ap (λ (r : Range). judge r (c .before .before .args .v)) (of-each (λ p. row p .range) all (0 ∷ 7 ∷ 8 ∷ 9 ∷ 15 ∷ 16 ∷ []) (c .before .before .args .p) (c .match .keys9) refl)
+returns-9 c =
+    ap (λ (r : Range). judge r (c .before .before .args .v)) (of-each (λ p. row p .range) all (0 ∷ 7 ∷ 8 ∷ 9 ∷ 15 ∷ 16 ∷ [])
+    (c .before .before .args .p) (c .match .keys9) refl)
 
 pub judge-spec : {M : Type 1} → statement M
 judge-spec =

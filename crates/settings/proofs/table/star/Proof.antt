@@ -11,7 +11,8 @@ returns : tie.Need-returns
 returns c = of-each (λ p. row p .star) false (0 ∷ 6 ∷ 7 ∷ 10 ∷ []) (c .before .args .p) (c .match .keys1) refl
 
 returns-2 : tie.Need-returns-2
-returns-2 c = of-each (λ p. row p .star) true (1 ∷ 2 ∷ 3 ∷ 4 ∷ 5 ∷ 8 ∷ 9 ∷ 11 ∷ 12 ∷ 13 ∷ 14 ∷ 15 ∷ 16 ∷ []) (c .before .args .p) (c .match .keys2) refl
+returns-2 c =
+    of-each (λ p. row p .star) true (1 ∷ 2 ∷ 3 ∷ 4 ∷ 5 ∷ 8 ∷ 9 ∷ 11 ∷ 12 ∷ 13 ∷ 14 ∷ 15 ∷ 16 ∷ []) (c .before .args .p) (c .match .keys2) refl
 
 pub star-spec : {M : Type 1} → statement M
 star-spec = tie.close (tie.spec returns returns-2)

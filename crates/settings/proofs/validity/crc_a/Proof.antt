@@ -73,7 +73,16 @@ unfolding le bytesOf
 returns c =
     let d = c .before .before .before .before .before .before .before .before .args .k .application .digits in
     let e : d % 256 ≡ d = omega arith in
-    rw (c .crc .ensures, c .before .before .word3 .ensures, c .before .before .before .bits-of3 .ensures, c .before .before .before .before .word2 .ensures, c .before .before .before .before .before .bits-of2 .ensures, c .before .before .before .before .before .before .word .ensures, c .before .before .before .before .before .before .before .bits-of .ensures, e)
+    rw (
+      c .crc .ensures,
+      c .before .before .word3 .ensures,
+      c .before .before .before .bits-of3 .ensures,
+      c .before .before .before .before .word2 .ensures,
+      c .before .before .before .before .before .bits-of2 .ensures,
+      c .before .before .before .before .before .before .word .ensures,
+      c .before .before .before .before .before .before .before .bits-of .ensures,
+      e,
+    )
 
 pub crc-a-spec : {M : Type 1} → statement M
 crc-a-spec =

@@ -30,7 +30,18 @@ fits-requires-7 c κs = search needs
 
 returns : tie.Need-returns
 unfolding rows
-returns c = rw (c .fits8 .ensures, c .before .fits7 .ensures, c .before .before .fits6 .ensures, c .before .before .before .fits5 .ensures, c .before .before .before .before .fits4 .ensures, c .before .before .before .before .before .fits3 .ensures, c .before .before .before .before .before .before .fits2 .ensures) (one-by-one (inForce (c .before .before .before .before .before .before .before .args .k)) P2330 (P6121 ∷ P6123 ∷ P6124 ∷ P6132 ∷ P51FE ∷ P51FF ∷ []))
+returns c =
+    rw (
+      c .fits8 .ensures,
+      c .before .fits7 .ensures,
+      c .before .before .fits6 .ensures,
+      c .before .before .before .fits5 .ensures,
+      c .before .before .before .before .fits4 .ensures,
+      c .before .before .before .before .before .fits3 .ensures,
+      c .before .before .before .before .before .before .fits2 .ensures,
+    )
+    (one-by-one (inForce (c .before .before .before .before .before .before .before .args .k)) P2330
+    (P6121 ∷ P6123 ∷ P6124 ∷ P6132 ∷ P51FE ∷ P51FF ∷ []))
 
 pub ranges-a-spec : {M : Type 1} → statement M
 ranges-a-spec =

@@ -39,7 +39,21 @@ fits-requires-10 c κs = search needs
 
 returns : tie.Need-returns
 unfolding rows
-returns c = rw (c .fits11 .ensures, c .before .fits10 .ensures, c .before .before .fits9 .ensures, c .before .before .before .fits8 .ensures, c .before .before .before .before .fits7 .ensures, c .before .before .before .before .before .fits6 .ensures, c .before .before .before .before .before .before .fits5 .ensures, c .before .before .before .before .before .before .before .fits4 .ensures, c .before .before .before .before .before .before .before .before .fits3 .ensures, c .before .before .before .before .before .before .before .before .before .fits2 .ensures) (one-by-one (inForce (c .before .before .before .before .before .before .before .before .before .before .args .k)) P1017 (P1301s1 ∷ P1301s2 ∷ P1301s3 ∷ P1301s5 ∷ P1301s6 ∷ P1800s2 ∷ P1800s5 ∷ P13FE ∷ P13FF ∷ []))
+returns c =
+    rw (
+      c .fits11 .ensures,
+      c .before .fits10 .ensures,
+      c .before .before .fits9 .ensures,
+      c .before .before .before .fits8 .ensures,
+      c .before .before .before .before .fits7 .ensures,
+      c .before .before .before .before .before .fits6 .ensures,
+      c .before .before .before .before .before .before .fits5 .ensures,
+      c .before .before .before .before .before .before .before .fits4 .ensures,
+      c .before .before .before .before .before .before .before .before .fits3 .ensures,
+      c .before .before .before .before .before .before .before .before .before .fits2 .ensures,
+    )
+    (one-by-one (inForce (c .before .before .before .before .before .before .before .before .before .before .args .k)) P1017
+    (P1301s1 ∷ P1301s2 ∷ P1301s3 ∷ P1301s5 ∷ P1301s6 ∷ P1800s2 ∷ P1800s5 ∷ P13FE ∷ P13FF ∷ []))
 
 pub ranges-c-spec : {M : Type 1} → statement M
 ranges-c-spec =

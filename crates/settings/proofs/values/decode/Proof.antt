@@ -48,10 +48,17 @@ returns-3 : tie.Need-returns-3
 returns-3 c = let d = c .before .before .args .d in let e : d % 4294967296 ≡ d = omega arith in rw (c .enum-told3 .given .1, e)
 
 returns-4 : tie.Need-returns-4
-returns-4 c = let d = c .before .before .before .args .d in let e : d % 4294967296 ≡ d = omega arith in rw (c .before .enum-told4 .given .1) (ap (λ (z : ℤ). Integer32 (toZ w32 (ofZ w32 z))) (c .signed-of .ensures) ∙ ap (λ (n : ℕ). Integer32 (toZ w32 n)) (ofZ-toZ w32 d (search needs) ∙ sym e))
+returns-4 c =
+    let d = c .before .before .before .args .d in
+    let e : d % 4294967296 ≡ d = omega arith in
+    rw (c .before .enum-told4 .given .1) (ap (λ (z : ℤ). Integer32 (toZ w32 (ofZ w32 z))) (c .signed-of .ensures)
+    ∙ ap (λ (n : ℕ). Integer32 (toZ w32 n)) (ofZ-toZ w32 d (search needs) ∙ sym e))
 
 returns-5 : tie.Need-returns-5
-returns-5 c = let d = c .before .before .before .args .d in let e : d % 4294967296 ≡ d = omega arith in rw (c .before .enum-told5 .given .1, c .real-of .ensures, e)
+returns-5 c =
+    let d = c .before .before .before .args .d in
+    let e : d % 4294967296 ≡ d = omega arith in
+    rw (c .before .enum-told5 .given .1, c .real-of .ensures, e)
 
 pub decode-spec : {M : Type 1} → statement M
 decode-spec =

@@ -61,7 +61,11 @@ returns-3 c = rw (c .word .ensures, c .before .before .v3 .given .1)
 
 returns-4 : tie.Need-returns-4
 unfolding fourBytes le
-returns-4 c = let z = c .before .before .before .v4 .given .0 .0 in let e : toZ w32 (ofZ w32 z) ≡ z = search needs in rw (c .before .before .before .v4 .given .1) (c .word2 .ensures ∙ ap (λ (n : ℕ). fourBytes (U32 n)) (c .before .unsigned-of .ensures ∙ ap (ofZ w32) e))
+returns-4 c =
+    let z = c .before .before .before .v4 .given .0 .0 in
+    let e : toZ w32 (ofZ w32 z) ≡ z = search needs in
+    rw (c .before .before .before .v4 .given .1) (c .word2 .ensures ∙ ap (λ (n : ℕ). fourBytes (U32 n)) (c .before .unsigned-of .ensures
+    ∙ ap (ofZ w32) e))
 
 returns-5 : tie.Need-returns-5
 unfolding fourBytes le

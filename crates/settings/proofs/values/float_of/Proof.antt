@@ -52,7 +52,10 @@ returns-3 : tie.Need-returns-3
 returns-3 c = rw (c .real-of3 .ensures, c .before .before .v3 .given .1)
 
 returns-4 : tie.Need-returns-4
-returns-4 c = let z = c .before .before .before .v4 .given .0 .0 in let e : toZ w32 (ofZ w32 z) ≡ z = search needs in rw (c .real-of4 .ensures, c .before .unsigned-of .ensures, c .before .before .before .v4 .given .1, e)
+returns-4 c =
+    let z = c .before .before .before .v4 .given .0 .0 in
+    let e : toZ w32 (ofZ w32 z) ≡ z = search needs in
+    rw (c .real-of4 .ensures, c .before .unsigned-of .ensures, c .before .before .before .v4 .given .1, e)
 
 returns-5 : tie.Need-returns-5
 returns-5 c = search needs
