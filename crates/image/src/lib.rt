@@ -95,6 +95,20 @@ pub fn sizes_in(image: &[u8]) -> Sizes
     Sizes { n, c, a }
 }
 
+// Whether an image and one that was built anew are the same. All 64 bytes are looked at: so the loop has no way out and is quick.
+fn same(image: &[u8], anew: &[u8]) -> bool
+    requires { ⌜ (length (now image) ≡ 64) × (length (now anew) ≡ 64) ⌝ }
+    ensures { λ r. ⌜ r ≡ sameBytes (now (image .entry)) (now (anew .entry)) ⌝ }
+{
+    let mut all = true;
+    let mut i = 0;
+    while i < 64 {
+        all = all & (image[i] == anew[i]);
+        i += 1;
+    }
+    all
+}
+
 // Whether an image is the very one that records of these sizes in it make: it is built anew and compared, so that a place, a
 // zero or the CRC that is wrong shows.
 pub fn is_own(image: &[u8], n: usize, c: usize, a: usize) -> bool
@@ -106,5 +120,5 @@ pub fn is_own(image: &[u8], n: usize, c: usize, a: usize) -> bool
     let in_a = wire::bytes::part_of(image, n + c, a);
     let mut anew = [0u8; 64];
     write_image(&mut anew, in_n, in_c, in_a);
-    check::same(image, &anew)
+    same(image, &anew)
 }

@@ -1,7 +1,7 @@
 -- The saved records are the parts of the image that the sizes say: one law for each of N, C and A, by whether the image is good. Assumes nothing.
 use Prim.Native.Nat.{ℕ, _+_}
 use mathlib.Core.Path.{_≡_, refl, ap, _∙_}
-use mathlib.Core.Bool.{Bool, true, false, _&&_}
+use mathlib.Core.Bool.{Bool, true, false, _&&_, cond}
 use mathlib.Core.List.{List, [], _∷_}
 use native.Mathlib.Omega.{arith}
 use lib.ListN.{length}
@@ -10,7 +10,7 @@ use Rattle.model.specs.Bytes.{part, sameBytes}
 use Rattle.model.specs.Store.{sizeOfRecord, factoryPlace, nIn, cIn, aIn, isGood, savedIf, read, savedN, saved, orElse, build, okN, ok}
 use Rattle.image.specs.declared.Sizes.{Sizes}
 use Rattle.image.specs.Sizes.{sizesIn, Sized}
-use Rattle.store.specs.Saved.{sizesIf, Kept, partFor, GroupPart}
+use Rattle.store.specs.Saved.{sizesIf, Kept, partFor, GroupPart, anew}
 
 n-by : (image : List ℕ) (b : Bool) → part 0 (sizesIf b (sizesIn image) .n) image ≡ savedN (savedIf b (nIn image) (cIn image) (aIn image))
 unfolding nIn part
@@ -51,6 +51,13 @@ module _ (image : List ℕ) (s : Sizes) (k : Kept image s) where
   pub group-a : (block r : List ℕ) → r ≡ partFor A image block s → GroupPart A image block s r
   group-a block r e =
       record { which = e; is-group = e ∙ ap (λ (l : List ℕ). orElse l (part (factoryPlace A) (sizeOfRecord A) block)) a-part }
+
+  -- an image of records each of which is set, or the part that the sizes say
+  pub set-or-kept : (setN setC setA : Bool) (n c a x y z : List ℕ) → x ≡ cond setN n (part 0 (s .n) image)
+      → y ≡ cond setC c (part (s .n) (s .c) image)
+      → z ≡ cond setA a (part (s .n + s .c) (s .a) image)
+      → build x y z ≡ anew setN n setC c setA a (read image)
+  set-or-kept setN setC setA n c a x y z e f g = rw (e, f, g, n-part, c-part, a-part)
 
 -- the two tests of an image, on the sizes that its trailer tells, are the definition's
 pub tests : (image : List ℕ) (s : Sizes) (own fine : Bool) → s ≡ sizesIn image

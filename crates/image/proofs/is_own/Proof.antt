@@ -1,5 +1,4 @@
 -- `is_own` meets its contract: the image anew is built of the three parts, and compared. Assumes nothing.
-use Rattle.image.proofs.Same.{same-test}
 use borrow.Author.Needs.{needs}
 use Rattle.image.proofs.is_own.Statement.{statement}
 use Rattle.image.proofs.is_own.Tie as tie
@@ -29,11 +28,15 @@ same-requires : tie.Need-same-requires
 same-requires c κs = search needs
 
 returns : tie.Need-returns
-returns c =
-    let w = c .before .before .before in
-    let p = w .before .before .before .before in
-    rw (← (p .part-of .ensures .0), ← (w .before .before .before .part-of2 .ensures .0), ← (w .before .before .part-of3 .ensures .0), ← (w .write-image .ensures))
-    (same-test _ _ _ (c .same .ensures))
+returns c = let w = c .before .before .before in
+    let p = w .before .before in
+    rw (
+      ← (p .before .before .part-of .ensures .0),
+      ← (p .before .part-of2 .ensures .0),
+      ← (p .part-of3 .ensures .0),
+      ← (w .write-image .ensures),
+    )
+    (c .same .ensures)
 
 pub is-own-spec : {M : Type 1} → statement M
 is-own-spec =

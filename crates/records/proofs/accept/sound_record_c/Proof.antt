@@ -1,7 +1,7 @@
 -- `accept::sound_record_c` meets its contract: the group is judged as decoded. Assumes nothing.
+use mathlib.Core.Path.{_∙_}
 use denote.Ref.{now}
-use Rattle.model.specs.Store.{soundRecord}
-use Rattle.records.proofs.Sound.{sound-c}
+use Rattle.records.proofs.Sound.{tests-c}
 use borrow.Author.Needs.{needs}
 use Rattle.records.proofs.accept.sound_record_c.Statement.{statement}
 use Rattle.records.proofs.accept.sound_record_c.Tie as tie
@@ -22,15 +22,11 @@ sound-c-requires : tie.Need-sound-c-requires
 sound-c-requires c κs = search needs
 
 returns : tie.Need-returns
-unfolding soundRecord
-returns c = let b = c .before .before .before in
-    rw (
-      c .sound-c .ensures,
-      c .before .decode-c .ensures,
-      sound-c (now (b .before .before .before .args .r)) (c .before .before .blank .result),
-      b .is-node-id .ensures,
-      b .before .byte .ensures,
-    )
+returns c =
+    let b = c .before .before .before in
+    let k = c .before .before .blank .result in
+    tests-c (now (b .before .before .before .args .r)) k (b .is-node-id .result) (c .sound-c .result)
+    (b .is-node-id .ensures ∙ rw (b .before .byte .ensures)) (c .sound-c .ensures ∙ rw (c .before .decode-c .ensures))
 
 pub sound-record-c-spec : {M : Type 1} → statement M
 sound-record-c-spec =

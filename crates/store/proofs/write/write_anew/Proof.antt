@@ -1,7 +1,7 @@
 -- `write::write_anew` meets its contract: the parts that the sizes say are the saved records. Assumes nothing.
 use denote.Ref.{now}
 use mathlib.Core.Path.{_∙_}
-use Rattle.store.proofs.Parts.{n-part, c-part, a-part}
+use Rattle.store.proofs.Parts.{set-or-kept}
 use borrow.Author.Needs.{needs}
 use Rattle.store.proofs.write.write_anew.Statement.{statement}
 use Rattle.store.proofs.write.write_anew.Tie as tie
@@ -28,18 +28,13 @@ same-length : tie.Need-same-length
 same-length c = search needs
 
 returns : tie.Need-returns
-returns c = let f = c .before .before .before .before in
+returns c =
+    let f = c .before .before .before .before in
     let z = f .before .before .before .saved-sizes in
-    let old = now (c .before .before .before .before .before .before .before .before .before .before .before .before .before .args .old) in
+    let a = c .before .before .before .before .before .before .before .before .before .before .before .before .before .args in
     c .before .before .write-image .ensures
-    ∙ rw (
-      f .new-or-old3 .ensures .0,
-      f .before .new-or-old2 .ensures .0,
-      f .before .before .new-or-old .ensures .0,
-      n-part old (z .result) (z .ensures),
-      c-part old (z .result) (z .ensures),
-      a-part old (z .result) (z .ensures),
-    )
+    ∙ set-or-kept (now (a .old)) (z .result) (z .ensures) (a .set-n) (a .set-c) (a .set-a) (now (a .n)) (now (a .c)) (now (a .a)) _ _ _
+    (f .before .before .new-or-old .ensures .0) (f .before .new-or-old2 .ensures .0) (f .new-or-old3 .ensures .0)
 
 pub write-anew-spec : {M : Type 1} → statement M
 write-anew-spec =
