@@ -7,7 +7,7 @@ use Rattle.model.specs.declared.LssRequest.the-variants.{SwitchMode, Select, Se
 use Rattle.model.specs.declared.Service.{Service}
 use Rattle.model.specs.declared.Service.the-variants.{Nothing, Tick, Sample, Nmt, Sync, Remote, Sdo, Lss}
 use Rattle.model.specs.Lss.{answered}
-use Rattle.lss.specs.declared.Reply.{Reply}
+use Rattle.model.specs.declared.Reply.{Reply}
 
 -- an answer of these bytes, where it is sent
 abbrev pub told : Bool → List ℕ → Reply

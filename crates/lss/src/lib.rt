@@ -5,13 +5,14 @@ use model::Core;
 use model::Frame;
 use model::Identity;
 use model::LssRequest;
+use model::Reply;
 use model::Selection;
 use model::State;
 ghost use mathlib.Core.Path.{_≡_};
 ghost use mathlib.Core.List.{[], _∷_};
 ghost use Prim.Native.Nat.{_≤_};
 ghost use Rattle.model.specs.Bytes.{le};
-ghost use Rattle.model.specs.Frames.{when};
+ghost use Rattle.model.specs.Frames.{framesOf};
 ghost use Rattle.model.specs.Store.{nodeId};
 ghost use Rattle.model.specs.Lss as Lss;
 ghost use Rattle.lss.specs.Told.{told, partOf};
@@ -173,12 +174,6 @@ pub fn lss_served(request: LssRequest, s: State) -> Core
 
 // ---- The answers
 
-// A frame, and whether it is sent.
-pub struct Reply {
-    pub send: bool,
-    pub frame: Frame,
-}
-
 // An answer of a command byte and one more.
 fn tell(send: bool, command: u8, value: u8) -> Reply
     ensures { λ r. ⌜ r ≡ told send (command ∷ value ∷ []) ⌝ }
@@ -231,7 +226,7 @@ fn error_unless(allowed: bool) -> u8
 // An event names a part of 0 to 3: else 5Ah and the part might be no byte.
 pub fn lss_reply(request: LssRequest, s: State) -> Reply
     requires { ⌜ partOf request ≤ 3 ⌝ }
-    ensures { λ r. ⌜ when (r .send) (r .frame) ≡ Lss.lssReply request s ⌝ }
+    ensures { λ r. ⌜ framesOf r ≡ Lss.lssReply request s ⌝ }
 {
     let on = s.core.lss.configuration;
     match request {
