@@ -1,0 +1,88 @@
+-- Small laws of tests and choices, which the theorems lean on. Assumes nothing.
+use mathlib.Core.Path.{_≡_, refl, sym, ap, _∙_}
+use mathlib.Core.Bool.{Bool, true, false, _&&_, _||_, not, cond, and-eq-true-iff, false≢true}
+use mathlib.Core.List.{List, [], _∷_}
+use Prim.Native.Nat.{ℕ, _≤_, _<_}
+use native.Mathlib.Omega.{arith}
+use lib.Dec.{eqb, leb}
+use borrow.Author.Tests.{eqb-false, leb-true, le-leb}
+use Rattle.model.specs.Choice.{Arm, _⇒_, firstHit}
+use Rattle.model.specs.Bytes.{within}
+
+-- ---- one test
+
+-- what holds of both ways, each with its test, holds of the choice
+pub cond-case : {X : Type 0} (P : X → Type 0) (b : Bool) {x y : X} → (b ≡ true → P x) → (b ≡ false → P y) → P (cond b x y)
+cond-case P true f g = f refl
+cond-case P false f g = g refl
+
+pub cond-same : {X : Type 0} (b : Bool) (x : X) → cond b x x ≡ x
+cond-same true x = refl
+cond-same false x = refl
+
+pub cond-ap : {X Y : Type 0} (f : X → Y) (b : Bool) (x y : X) → f (cond b x y) ≡ cond b (f x) (f y)
+cond-ap f true x y = refl
+cond-ap f false x y = refl
+
+pub and-l : (a b : Bool) → a && b ≡ true → a ≡ true
+and-l a b h = and-eq-true-iff a b .0 h .0
+
+pub and-r : (a b : Bool) → a && b ≡ true → b ≡ true
+and-r a b h = and-eq-true-iff a b .0 h .1
+
+pub and-both : (a b : Bool) → a ≡ true → b ≡ true → a && b ≡ true
+and-both a b h k = and-eq-true-iff a b .1 (h, k)
+
+pub and-false : (b : Bool) → b && false ≡ false
+and-false true = refl
+and-false false = refl
+
+-- one implies the other
+pub implies : (a b : Bool) → a ≡ true → not a || b ≡ true → b ≡ true
+implies a b e h = rw e at h
+
+-- where the first fails nothing is asked of the other
+pub off : (a b : Bool) → a ≡ false → not a || b ≡ true
+off a b e = rw e refl
+
+pub within-is : (lo hi n : ℕ) → within lo hi n ≡ true → (lo ≤ n) × (n ≤ hi)
+within-is lo hi n h = (leb-true lo n (and-l _ (leb n hi) h), leb-true n hi (and-r (leb lo n) _ h))
+
+pub is-within : (lo hi n : ℕ) → lo ≤ n → n ≤ hi → within lo hi n ≡ true
+is-within lo hi n a b = rw (le-leb lo n a, le-leb n hi b) refl
+
+-- ---- a choice
+
+-- P of each arm, where its test holds
+abbrev pub Each : {X : Type 0} → (X → Type 0) → List (Arm X) → Type 0
+Each P [] = Unit {0}
+Each P ((test ⇒ x) ∷ arms) = (test ≡ true → P x) × Each P arms
+
+pub hit-case : {X : Type 0} (P : X → Type 0) (arms : List (Arm X)) (otherwise : X) → Each P arms → P otherwise → P (firstHit arms otherwise)
+unfolding firstHit
+hit-case P [] d h k = k
+hit-case P ((true ⇒ x) ∷ arms) d h k = h .0 refl
+hit-case P ((false ⇒ x) ∷ arms) d h k = hit-case P arms d (h .1) k
+
+-- no test holds
+abbrev pub NoneOf : {X : Type 0} → List (Arm X) → Type 0
+NoneOf [] = Unit {0}
+NoneOf ((test ⇒ x) ∷ arms) = (test ≡ false) × NoneOf arms
+
+abbrev pub nonzero : List (Arm ℕ) → Bool
+nonzero [] = true
+nonzero ((test ⇒ x) ∷ arms) = not (eqb x 0) && nonzero arms
+
+head-nonzero : (x : ℕ) (b : Bool) → not (eqb x 0) && b ≡ true → x ≡ 0 → ⊥
+head-nonzero x b h e = go (eqb x 0) refl h
+  where
+    go : (t : Bool) → eqb x 0 ≡ t → not t && b ≡ true → ⊥
+    go true p q = let z : _≡_ {A = ℕ} 0 1 = cc in omega arith
+    go false p q = eqb-false x 0 p e
+
+-- number 0 comes only where no test holds, if no arm gives 0
+pub hit-zero : (arms : List (Arm ℕ)) → nonzero arms ≡ true → firstHit arms 0 ≡ 0 → NoneOf arms
+unfolding firstHit
+hit-zero [] n h = tt
+hit-zero ((true ⇒ x) ∷ arms) n h = absurd (head-nonzero x (nonzero arms) n h)
+hit-zero ((false ⇒ x) ∷ arms) n h = (refl, hit-zero arms (and-r (not (eqb x 0)) (nonzero arms) n) h)
