@@ -8,13 +8,13 @@ use Prim.Native.Nat.{ℕ, zero, suc, _+_, _≤_, _<_}
 use native.Mathlib.Omega.{arith}
 use borrow.Author.Tests.{eqb-true, eq-eqb, ne-eqb}
 use lib.Dec.{eqb}
-use lib.ListN.{length, take, drop, replicate, length-append, length-replicate}
-use lib.Seq.{take-at, drop-at}
+use lib.ListN.{length, replicate, length-append, length-replicate}
 use Rattle.model.specs.declared.Group.{Group}
 use Rattle.model.specs.declared.Group.the-variants.{C, A}
 use Rattle.model.specs.Bytes.{le, unle, part, numberAt, sameBytes}
 use Rattle.model.specs.Store.{sizeN, sizeOfRecord, soundN, soundRecord, okN, ok, placeIn, packed, placed, build, Saved, nothing, good, lengthAt, nIn, cIn, aIn, savedIf, isGood, read, savedN, saved}
 use Rattle.wire.proofs.Numbers.{length-le, unle-le}
+use Rattle.laws.proofs.Bytes.{part-mid}
 use Rattle.laws.proofs.Tests.{cond-case, and-l, and-r}
 
 -- ---- the same bytes
@@ -80,11 +80,7 @@ sized-of g r h = sized (sizeOfRecord g) r (soundRecord g r) h
 size-le : (k : ℕ) (r : List ℕ) → Sized k r → length r ≤ k
 size-le k r o = ⊎-elim (λ e. omega arith) (λ e. omega arith) o
 
--- what stands behind some bytes
-part-mid : (p v r : List ℕ) (at k : ℕ) → length p ≡ at → length v ≡ k → part at k (p ++ (v ++ r)) ≡ v
-unfolding part
-part-mid p v r at k e f = rw (drop-at p (v ++ r) at e) (take-at v r k f)
-
+-- a number behind some bytes
 number-mid : (p r : List ℕ) (at x : ℕ) → length p ≡ at → x < 65536 → numberAt at 2 (p ++ (le 2 x ++ r)) ≡ x
 number-mid p r at x e h = rw (part-mid p (le 2 x) r at 2 e (length-le 2 x)) (unle-le 2 x h)
 

@@ -1,3 +1,6 @@
 pub mod Tests
+pub mod Bytes
 pub mod Values
 pub mod Image
+pub mod Parameters
+pub mod Saving
