@@ -4,3 +4,5 @@ pub mod Values
 pub mod Image
 pub mod Parameters
 pub mod Saving
+pub mod Count
+pub mod OneAnswer

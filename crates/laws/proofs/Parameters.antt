@@ -1,6 +1,6 @@
 -- The seventeen saved parameters: what may stand in each, and that the values in force are read back as they were set. Assumes nothing.
 use mathlib.Core.Path.{_≡_, refl, sym, ap, _∙_, subst, fun-ext}
-use mathlib.Core.Bool.{Bool, true, false, _&&_, _||_, not, cond}
+use mathlib.Core.Bool.{Bool, true, false, _&&_, _||_, not, cond, false≢true}
 use mathlib.Core.List.{List, [], _∷_}
 use Prim.Native.Nat.{ℕ, zero, suc, _+_, _*_, _%_, _≤_, _<_}
 use native.Mathlib.Omega.{arith}
@@ -24,7 +24,7 @@ use Rattle.model.specs.Settings.{row, table, same, among, sameGroup, rows, inFo
 use Rattle.model.specs.Validity.{validityOf}
 use Rattle.model.specs.Store.{defaultFor}
 use Rattle.laws.proofs.Tests.{cond-case, and-l, and-r, and-both, is-within}
-use Rattle.laws.proofs.Values.{Holds, typed-number}
+use Rattle.laws.proofs.Values.{Holds}
 
 -- ---- the table
 
@@ -160,17 +160,28 @@ abbrev pub after : Now → Value → Value
 after stays v = v
 after (becomes w) v = w
 
-abbrev pub FitsNow : Parameter → Now → Type 0
-FitsNow p stays = Unit {0}
-FitsNow p (becomes v) = Fits p v
+abbrev pub KindNow : Parameter → Now → Type 0
+KindNow p stays = Unit {0}
+KindNow p (becomes v) = kindOf v ≡ row p .kind
 
--- a value of a type is what its number stands for
-typed-is : (k : Kind) (v : Value) → kindOf v ≡ k → Holds v → typed k (numberOf v) ≡ v
-typed-is k v e h = subst (λ (x : Kind). typed x (numberOf v) ≡ v) e (typed-number v h)
+-- a value without sign is what its number stands for
+abbrev plain : Kind → Bool
+plain K.U8 = true
+plain K.U16 = true
+plain K.U32 = true
+plain K.Integer32 = false
+plain K.Real32 = false
 
-whole-after : (p : Parameter) (now : Now) (n : ℕ) → FitsNow p now → typed (row p .kind) (whole now n) ≡ after now (typed (row p .kind) n)
-whole-after p stays n h = refl
-whole-after p (becomes v) n h = typed-is (row p .kind) v (h .kind) (h .holds)
+typed-is : (k : Kind) (v : Value) → kindOf v ≡ k → plain k ≡ true → typed k (numberOf v) ≡ v
+typed-is k (U8 n) e h = subst (λ (x : Kind). typed x n ≡ U8 n) e refl
+typed-is k (U16 n) e h = subst (λ (x : Kind). typed x n ≡ U16 n) e refl
+typed-is k (U32 n) e h = subst (λ (x : Kind). typed x n ≡ U32 n) e refl
+typed-is k (Integer32 z) e h = absurd (false≢true (ap plain e ∙ h))
+typed-is k (Real32 x) e h = absurd (false≢true (ap plain e ∙ h))
+
+whole-after : (p : Parameter) (now : Now) (n : ℕ) → plain (row p .kind) ≡ true → KindNow p now → typed (row p .kind) (whole now n) ≡ after now (typed (row p .kind) n)
+whole-after p stays n e h = refl
+whole-after p (becomes v) n e h = typed-is (row p .kind) v h e
 
 real-is : (v : Value) → kindOf v ≡ K.Real32 → Real32 (floatOf v) ≡ v
 real-is (U8 n) e = cc
@@ -179,31 +190,31 @@ real-is (U32 n) e = cc
 real-is (Integer32 z) e = cc
 real-is (Real32 x) e = refl
 
-float-after : (p : Parameter) (now : Now) (x : Float) → row p .kind ≡ K.Real32 → FitsNow p now → Real32 (float now x) ≡ after now (Real32 x)
+float-after : (p : Parameter) (now : Now) (x : Float) → row p .kind ≡ K.Real32 → KindNow p now → Real32 (float now x) ≡ after now (Real32 x)
 float-after p stays x e h = refl
-float-after p (becomes v) x e h = real-is v (h .kind ∙ e)
+float-after p (becomes v) x e h = real-is v (h ∙ e)
 
-pub altered-is : (now : Parameter → Now) (k : Settings) → ((p : Parameter) → FitsNow p (now p)) → (p : Parameter) → inForce (altered now k) p ≡ after (now p) (inForce k p)
-altered-is now k h P1017 = whole-after P1017 (now P1017) _ (h P1017)
-altered-is now k h P1301s1 = whole-after P1301s1 (now P1301s1) _ (h P1301s1)
-altered-is now k h P1301s2 = whole-after P1301s2 (now P1301s2) _ (h P1301s2)
-altered-is now k h P1301s3 = whole-after P1301s3 (now P1301s3) _ (h P1301s3)
-altered-is now k h P1301s5 = whole-after P1301s5 (now P1301s5) _ (h P1301s5)
-altered-is now k h P1301s6 = whole-after P1301s6 (now P1301s6) _ (h P1301s6)
-altered-is now k h P1800s2 = whole-after P1800s2 (now P1800s2) _ (h P1800s2)
-altered-is now k h P1800s5 = whole-after P1800s5 (now P1800s5) _ (h P1800s5)
-altered-is now k h P13FE = whole-after P13FE (now P13FE) _ (h P13FE)
-altered-is now k h P13FF = whole-after P13FF (now P13FF) _ (h P13FF)
-altered-is now k h P2330 = whole-after P2330 (now P2330) _ (h P2330)
+pub altered-is : (now : Parameter → Now) (k : Settings) → ((p : Parameter) → KindNow p (now p)) → (p : Parameter) → inForce (altered now k) p ≡ after (now p) (inForce k p)
+altered-is now k h P1017 = whole-after P1017 (now P1017) _ refl (h P1017)
+altered-is now k h P1301s1 = whole-after P1301s1 (now P1301s1) _ refl (h P1301s1)
+altered-is now k h P1301s2 = whole-after P1301s2 (now P1301s2) _ refl (h P1301s2)
+altered-is now k h P1301s3 = whole-after P1301s3 (now P1301s3) _ refl (h P1301s3)
+altered-is now k h P1301s5 = whole-after P1301s5 (now P1301s5) _ refl (h P1301s5)
+altered-is now k h P1301s6 = whole-after P1301s6 (now P1301s6) _ refl (h P1301s6)
+altered-is now k h P1800s2 = whole-after P1800s2 (now P1800s2) _ refl (h P1800s2)
+altered-is now k h P1800s5 = whole-after P1800s5 (now P1800s5) _ refl (h P1800s5)
+altered-is now k h P13FE = whole-after P13FE (now P13FE) _ refl (h P13FE)
+altered-is now k h P13FF = whole-after P13FF (now P13FF) _ refl (h P13FF)
+altered-is now k h P2330 = whole-after P2330 (now P2330) _ refl (h P2330)
 altered-is now k h P6121 = float-after P6121 (now P6121) _ refl (h P6121)
 altered-is now k h P6123 = float-after P6123 (now P6123) _ refl (h P6123)
 altered-is now k h P6124 = float-after P6124 (now P6124) _ refl (h P6124)
-altered-is now k h P6132 = whole-after P6132 (now P6132) _ (h P6132)
-altered-is now k h P51FE = whole-after P51FE (now P51FE) _ (h P51FE)
-altered-is now k h P51FF = whole-after P51FF (now P51FF) _ (h P51FF)
+altered-is now k h P6132 = whole-after P6132 (now P6132) _ refl (h P6132)
+altered-is now k h P51FE = whole-after P51FE (now P51FE) _ refl (h P51FE)
+altered-is now k h P51FF = whole-after P51FF (now P51FF) _ refl (h P51FF)
 
 -- settings made of values have those values, and are made of those that they have
-pub made-is : (f : Parameter → Value) → ((p : Parameter) → Fits p (f p)) → (p : Parameter) → inForce (made f) p ≡ f p
+pub made-is : (f : Parameter → Value) → ((p : Parameter) → kindOf (f p) ≡ row p .kind) → (p : Parameter) → inForce (made f) p ≡ f p
 made-is f h p = altered-is (λ (q : Parameter). becomes (f q)) blank h p
 
 pub made-back : (k : Settings) → made (inForce k) ≡ k

@@ -69,20 +69,21 @@ abbrev pub NoneOf : {X : Type 0} → List (Arm X) → Type 0
 NoneOf [] = Unit {0}
 NoneOf ((test ⇒ x) ∷ arms) = (test ≡ false) × NoneOf arms
 
-abbrev pub nonzero : List (Arm ℕ) → Bool
-nonzero [] = true
-nonzero ((test ⇒ x) ∷ arms) = not (eqb x 0) && nonzero arms
+-- no arm whose test holds gives 0
+abbrev pub telling : List (Arm ℕ) → Bool
+telling [] = true
+telling ((test ⇒ x) ∷ arms) = (not (eqb x 0) || not test) && telling arms
 
-head-nonzero : (x : ℕ) (b : Bool) → not (eqb x 0) && b ≡ true → x ≡ 0 → ⊥
-head-nonzero x b h e = go (eqb x 0) refl h
+zero-told : (x : ℕ) (b : Bool) → (not (eqb x 0) || false) && b ≡ true → x ≡ 0 → ⊥
+zero-told x b h e = go (eqb x 0) refl h
   where
-    go : (t : Bool) → eqb x 0 ≡ t → not t && b ≡ true → ⊥
+    go : (t : Bool) → eqb x 0 ≡ t → (not t || false) && b ≡ true → ⊥
     go true p q = let z : _≡_ {A = ℕ} 0 1 = cc in omega arith
     go false p q = eqb-false x 0 p e
 
--- number 0 comes only where no test holds, if no arm gives 0
-pub hit-zero : (arms : List (Arm ℕ)) → nonzero arms ≡ true → firstHit arms 0 ≡ 0 → NoneOf arms
+-- then 0 comes only where no test holds
+pub hit-zero : (arms : List (Arm ℕ)) → telling arms ≡ true → firstHit arms 0 ≡ 0 → NoneOf arms
 unfolding firstHit
 hit-zero [] n h = tt
-hit-zero ((true ⇒ x) ∷ arms) n h = absurd (head-nonzero x (nonzero arms) n h)
-hit-zero ((false ⇒ x) ∷ arms) n h = (refl, hit-zero arms (and-r (not (eqb x 0)) (nonzero arms) n) h)
+hit-zero ((true ⇒ x) ∷ arms) n h = absurd (zero-told x (telling arms) n h)
+hit-zero ((false ⇒ x) ∷ arms) n h = (refl, hit-zero arms (and-r (not (eqb x 0) || true) (telling arms) n) h)
