@@ -4,5 +4,8 @@ pub mod Values
 pub mod Image
 pub mod Parameters
 pub mod Saving
+pub mod Loading
+pub mod Allowed
+pub mod LookBack
 pub mod Count
 pub mod OneAnswer
