@@ -7,5 +7,7 @@ pub mod Saving
 pub mod Loading
 pub mod Allowed
 pub mod LookBack
+pub mod Deeds
+pub mod History
 pub mod Count
 pub mod OneAnswer
