@@ -9,5 +9,6 @@ pub mod Allowed
 pub mod LookBack
 pub mod Deeds
 pub mod History
+pub mod Sound
 pub mod Count
 pub mod OneAnswer

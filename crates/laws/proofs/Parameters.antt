@@ -153,9 +153,29 @@ default-fine P6132 id a b = record { fits = record { kind = refl; holds = lit< t
 default-fine P51FE id a b = record { fits = record { kind = refl; holds = lit< tt }; inside = refl }
 default-fine P51FF id a b = record { fits = record { kind = refl; holds = lit< tt }; inside = refl }
 
--- ---- the values in force after an alteration
+-- ---- the values in force
 
--- a value after it
+-- each is of its parameter's type
+pub in-force-kind : (k : Settings) (p : Parameter) → kindOf (inForce k p) ≡ row p .kind
+in-force-kind k P1017 = refl
+in-force-kind k P1301s1 = refl
+in-force-kind k P1301s2 = refl
+in-force-kind k P1301s3 = refl
+in-force-kind k P1301s5 = refl
+in-force-kind k P1301s6 = refl
+in-force-kind k P1800s2 = refl
+in-force-kind k P1800s5 = refl
+in-force-kind k P13FE = refl
+in-force-kind k P13FF = refl
+in-force-kind k P2330 = refl
+in-force-kind k P6121 = refl
+in-force-kind k P6123 = refl
+in-force-kind k P6124 = refl
+in-force-kind k P6132 = refl
+in-force-kind k P51FE = refl
+in-force-kind k P51FF = refl
+
+-- and after an alteration
 abbrev pub after : Now → Value → Value
 after stays v = v
 after (becomes w) v = w

@@ -4,11 +4,10 @@ use mathlib.Core.Bool.{Bool, true, false, _&&_, _||_, not, cond}
 use mathlib.Core.List.{List, [], _∷_, _++_, append-assoc, append-nil}
 use Prim.Native.Nat.{ℕ, zero, suc, _+_, _≤_, _<_}
 use native.Mathlib.Omega.{arith}
-use lib.Dec.{eqb, leb}
+use lib.Dec.{eqb, leb, lit≤}
 use lib.ListN.{length, length-append}
 use borrow.Author.Tests.{eqb-true, eq-eqb, ne-eqb}
 use Rattle.model.specs.declared.Value.{Value}
-use Rattle.model.specs.declared.Value.the-variants.{U8}
 use Rattle.model.specs.declared.Parameter.{Parameter}
 use Rattle.model.specs.declared.Group.{Group}
 use Rattle.model.specs.declared.Group.the-variants.{C, A}
@@ -23,7 +22,7 @@ use Rattle.laws.proofs.Tests.{cond-case, cond-same, cond-ap, and-l, and
 use Rattle.laws.proofs.Bytes.{Bytes, part-lt, part-mid}
 use Rattle.laws.proofs.Values.{Holds, typed-number, number-small, typed-kind, typed-holds}
 use Rattle.laws.proofs.Image.{Accepted, read-build, read-n, read-ok}
-use Rattle.laws.proofs.Parameters.{same-eq, by-table, group-eq, group-self, in-rows, Fits, Fine, range-at, default-fine}
+use Rattle.laws.proofs.Parameters.{same-eq, by-table, group-eq, group-self, in-rows, Fits, Fine, ranges-from, default-fine}
 
 -- ---- a record
 
@@ -82,12 +81,27 @@ length-record A id f h = length-rows (rows A) f h
 
 -- soundness of a group looks at its own parameters alone
 own : Group → (Parameter → Value) → Parameter → Value
-own g f q = cond (sameGroup (row q .group) g) (f q) (U8 0)
+own g f q = cond (sameGroup (row q .group) g) (f q) (defaultFor 1 q)
 
 sound-own : (g : Group) (f : Parameter → Value) → sound g (own g f) ≡ sound g f
 unfolding sound own rows inRanges valid signs bytesOf
 sound-own C f = refl
 sound-own A f = refl
+
+ranges-own : (g : Group) (f : Parameter → Value) → inRanges (rows g) (own g f) ≡ inRanges (rows g) f
+unfolding own rows inRanges
+ranges-own C f = refl
+ranges-own A f = refl
+
+-- so its ranges are kept if each of its own is
+pub ranges-in : (g : Group) (f : Parameter → Value) → ((q : Parameter) → row q .group ≡ g → isInside (judge (row q .range) (f q)) ≡ true) → inRanges (rows g) f ≡ true
+ranges-in g f h = sym (ranges-own g f) ∙ ranges-from (rows g) (own g f) inside
+  where
+    inside : (q : Parameter) → isInside (judge (row q .range) (own g f q)) ≡ true
+    inside q =
+        unfold own in
+        cond-case (λ (v : Value). isInside (judge (row q .range) v) ≡ true) (sameGroup (row q .group) g) (λ e. h q (group-eq (row q .group) g e))
+        (λ _. default-fine q 1 (lit≤ tt) (lit≤ tt) .inside)
 
 pub sound-by : (g : Group) (f h : Parameter → Value) → ((q : Parameter) → row q .group ≡ g → f q ≡ h q) → sound g f ≡ sound g h
 unfolding own
@@ -96,7 +110,7 @@ sound-by g f h e = sym (sound-own g f) ∙ ap (sound g) (fun-ext same-own) ∙ s
     same-own : (q : Parameter) → own g f q ≡ own g h q
     same-own q = go (sameGroup (row q .group) g) refl
       where
-        go : (b : Bool) → sameGroup (row q .group) g ≡ b → cond b (f q) (U8 0) ≡ cond b (h q) (U8 0)
+        go : (b : Bool) → sameGroup (row q .group) g ≡ b → cond b (f q) (defaultFor 1 q) ≡ cond b (h q) (defaultFor 1 q)
         go true d = e q (group-eq (row q .group) g d)
         go false d = refl
 
