@@ -116,7 +116,7 @@ not-due true d h = refl
 not-due false true h = cc
 not-due false false h = refl
 
-flag-right : (s : State) → rules s ≡ true → isStopped (s .core) || not (differ (capped s) (s .core .reported)) ≡ true
+pub flag-right : (s : State) → rules s ≡ true → isStopped (s .core) || not (differ (capped s) (s .core .reported)) ≡ true
 unfolding rules ruleReported
 flag-right s h = search (and-l, and-r) depth 9
 

@@ -10,5 +10,7 @@ pub mod LookBack
 pub mod Deeds
 pub mod History
 pub mod Sound
+pub mod CoreRules
 pub mod Count
+pub mod RulesKept
 pub mod OneAnswer
