@@ -13,4 +13,6 @@ pub mod Sound
 pub mod CoreRules
 pub mod Count
 pub mod RulesKept
+pub mod Pairs
+pub mod PairsInLog
 pub mod OneAnswer

@@ -239,7 +239,7 @@ step-rules e s st r =
     served-rules (changeOf v s (read st)) v s st r (change-allowed s st r v) (beside v s (read st)) (flag-after v s st r)
 
 -- the state before a power-on keeps them
-unborn-rules : (i : Identity) → rules (unborn i) ≡ true
+pub unborn-rules : (i : Identity) → rules (unborn i) ≡ true
 unfolding everything
 unborn-rules i = refl
 
@@ -258,7 +258,7 @@ unfolding begun
 begun-rules i room st =
     cond-case (λ (w : World). rules (w .state) ≡ true) (eqb (powerOnRefusal room (length st)) done) (λ _. power-on-rules i st) (λ _. power-on-rules i zeroStore)
 
-continued-rules : (c : Call) (w : World) → rules (w .state) ≡ true → rules (continued c w .state) ≡ true
+pub continued-rules : (c : Call) (w : World) → rules (w .state) ≡ true → rules (continued c w .state) ≡ true
 unfolding continued
 continued-rules c w r =
     cond-case (λ (x : World). rules (x .state) ≡ true) (eqb (refusal (c .event) (w .state) (c .room) (length (w .store))) done)
