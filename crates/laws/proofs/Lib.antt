@@ -15,4 +15,5 @@ pub mod Count
 pub mod RulesKept
 pub mod Pairs
 pub mod PairsInLog
+pub mod HalfWrites
 pub mod OneAnswer
