@@ -1,10 +1,9 @@
 -- What a change that is made can count on: a service changes nothing but what document 01 allows it to. Assumes nothing.
-use mathlib.Core.Path.{_≡_, refl, sym, ap, _∙_}
-use mathlib.Core.Bool.{Bool, true, false, _&&_, _||_, not, cond}
-use mathlib.Core.List.{List, [], _∷_, _++_}
-use Prim.Native.Nat.{ℕ, _≤_}
-use native.Mathlib.Omega.{arith}
-use lib.Dec.{eqb, leb}
+use mathlib.Core.Path.{_≡_, refl}
+use mathlib.Core.Bool.{true, false, _&&_, _||_, not}
+use mathlib.Core.List.{List}
+use Prim.Native.Nat.{ℕ}
+use lib.Dec.{eqb}
 use borrow.Author.Tests.{eqb-true, not-false}
 use Rattle.model.specs.declared.Value.{Value}
 use Rattle.model.specs.declared.Parameter.{Parameter}
@@ -12,7 +11,6 @@ use Rattle.model.specs.declared.Group.{Group}
 use Rattle.model.specs.declared.Group.the-variants.{C, A}
 use Rattle.model.specs.declared.Verdict.{Verdict}
 use Rattle.model.specs.declared.Verdict.the-variants.{Inside, Outside, Above, Below}
-use Rattle.model.specs.declared.Entry.{Entry}
 use Rattle.model.specs.declared.Entry.the-variants.{Fixed, Name, Shown, Setting, SaveWord, LoadWord}
 use Rattle.model.specs.declared.Found.{Found}
 use Rattle.model.specs.declared.Found.the-variants.{NoObject, NoSub, At}
@@ -26,21 +24,20 @@ use Rattle.model.specs.declared.SdoRequest.the-variants as R
 use Rattle.model.specs.declared.LssRequest.{LssRequest}
 use Rattle.model.specs.declared.LssRequest.the-variants.{SwitchMode, Select, SetNodeId, SetBitIndex, StorePending, AskIdentity, AskNodeId, OtherLss}
 use Rattle.model.specs.declared.State.{State}
-use Rattle.model.specs.Choice.{firstHit}
 use Rattle.model.specs.Values.{decoded}
 use Rattle.model.specs.Settings.{row, has, inForce, judge, isInside, inRanges, rows}
 use Rattle.model.specs.Validity.{honest, sound}
-use Rattle.model.specs.Store.{nodeId, bitIndex, Saved, read, addressFrom}
+use Rattle.model.specs.Store.{nodeId, bitIndex, read}
 use Rattle.model.specs.Parts.{idOf, isOperational, isPreOperational}
 use Rattle.model.specs.Dictionary.{find}
-use Rattle.model.specs.Nmt.{isFor, resetNodeCommand, resetCommunicationCommand, resetAsked, nmtChange}
+use Rattle.model.specs.Nmt.{isFor, resetAsked, nmtChange}
 use Rattle.model.specs.Sdo.{rangeCode, falseMark, writeCode, asked, checkedWrite, changeIn, sdoChange, serves}
 use Rattle.model.specs.Lss.{inConfiguration, lssChange}
 use Rattle.model.specs.Rules.{rules, ruleIds, ruleBits, ruleRanges, ruleMarks}
 use Rattle.model.specs.Step.{changeOf}
 use Rattle.laws.proofs.Tests.{cond-case, and-l, and-r, and-both, hit-case, hit-zero}
 use Rattle.laws.proofs.Values.{decoded-kind, decoded-holds}
-use Rattle.laws.proofs.Parameters.{Fits, Fine}
+use Rattle.laws.proofs.Parameters.{Fine}
 use Rattle.laws.proofs.Loading.{address-ok}
 
 -- ---- what the rules say

@@ -1,19 +1,18 @@
 -- The rules of the part of the state that no save keeps: each service and each reset keeps them. Assumes nothing.
-use mathlib.Core.Path.{_≡_, refl, sym, ap, _∙_, subst}
+use mathlib.Core.Path.{_≡_, refl}
 use mathlib.Core.Bool.{Bool, true, false, _&&_, _||_, not, cond}
-use mathlib.Core.List.{List, [], _∷_}
+use mathlib.Core.List.{List}
 use mathlib.Core.Logic.{_⊎_, inl, inr, ⊎-elim}
-use Prim.Native.Nat.{ℕ, _+_, _-_, _≤_, _<_}
+use Prim.Native.Nat.{ℕ, _+_, _-_, _≤_}
 use native.Mathlib.Omega.{arith}
 use lib.Dec.{eqb, leb, ltb}
-use borrow.Author.Tests.{eqb-true, eqb-false, leb-true, le-leb, leb-false, lt-ltb, ltb-true}
+use borrow.Author.Tests.{eqb-true, eqb-false, leb-true, le-leb, leb-false, lt-ltb}
 use Rattle.model.specs.declared.Groups.{Groups}
 use Rattle.model.specs.declared.Groups.the-variants.{Both, OnlyC, OnlyA}
 use Rattle.model.specs.declared.Timer.{Timer}
 use Rattle.model.specs.declared.Timer.the-variants.{NoTimer, Heartbeat, Tpdo, Srdo}
 use Rattle.model.specs.declared.Transmission.{Transmission}
 use Rattle.model.specs.declared.Transmission.the-variants.{OnSample, OnSyncs, OnRemote, Timed, Never}
-use Rattle.model.specs.declared.Entry.{Entry}
 use Rattle.model.specs.declared.Entry.the-variants.{Fixed, Name, Shown, Setting, SaveWord, LoadWord}
 use Rattle.model.specs.declared.Found.{Found}
 use Rattle.model.specs.declared.Found.the-variants.{NoObject, NoSub, At}
@@ -30,15 +29,14 @@ use Rattle.model.specs.declared.Upload.{Upload}
 use Rattle.model.specs.declared.Settings.{Settings}
 use Rattle.model.specs.declared.Core.{Core}
 use Rattle.model.specs.declared.State.{State}
-use Rattle.model.specs.Choice.{firstHit}
 use Rattle.model.specs.Bytes.{within}
-use Rattle.model.specs.Store.{nodeId, bitIndex, Saved, read, addressFrom}
-use Rattle.model.specs.Parts.{idOf, selection, noSelection, openUpload, noUpload, Operational, PreOperational, Stopped, isStopped, isOperational, isPreOperational}
+use Rattle.model.specs.Store.{nodeId, bitIndex, Saved, read}
+use Rattle.model.specs.Parts.{idOf, noSelection, openUpload, noUpload, Operational, PreOperational, Stopped, isOperational, isPreOperational}
 use Rattle.model.specs.Dictionary.{find}
 use Rattle.model.specs.Time.{communication, restart, ticked, transmission, sendsAt, syncCounted, synced, answersRemote, remoteAnswered}
 use Rattle.model.specs.Nmt.{isFor, lssLeft, startObeyed, start, stop, obeyed, commanded, readied, cleared, autoStart, reset}
-use Rattle.model.specs.Sdo.{isLast, segmentSent, sendsSegment, opened, uploadAfter, serves}
-use Rattle.model.specs.Lss.{identityPart, matches, selectionAfter, modeAfter, lssAfter, inConfiguration, bitInTable, pendingAfter}
+use Rattle.model.specs.Sdo.{segmentSent, sendsSegment, opened, uploadAfter, serves}
+use Rattle.model.specs.Lss.{identityPart, matches, selectionAfter, lssAfter, inConfiguration, bitInTable, pendingAfter}
 use Rattle.model.specs.Rules.{rules, ruleIds, ruleBits, ruleNmt, ruleStart, ruleLss, ruleSync, stands, ruleUpload}
 use Rattle.model.specs.Step.{heard}
 use Rattle.laws.proofs.Tests.{cond-case, and-l, and-r, and-both, hit-case, within-is}

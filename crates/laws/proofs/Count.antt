@@ -1,10 +1,11 @@
 -- "0 is done, with count 0..4": no event and no power-on sends more than four frames, whatever the state and the store. And a tick, which
 -- sends no EMCY, leaves none due. Assumes nothing.
-use Prim.Native.Nat.{ℕ, _+_, _≤_}
+use Prim.Native.Nat.{ℕ, _≤_}
 use native.Mathlib.Omega.{arith}
 use mathlib.Core.Path.{_≡_, refl}
-use mathlib.Core.Bool.{Bool, true, false, cond, not, _&&_, _||_}
-use mathlib.Core.List.{List, [], _∷_, _++_}
+use mathlib.Core.Bool.{Bool, true, false, not, _&&_, _||_}
+use mathlib.Core.List.{List, _++_}
+use lib.Dec.{eqb}
 use lib.ListN.{length, length-append}
 use Rattle.model.specs.declared.Service.{Service}
 use Rattle.model.specs.declared.Service.the-variants.{Nothing, Tick, Sample, Nmt, Sync, Remote, Sdo, Lss}
@@ -21,12 +22,12 @@ use Rattle.model.specs.Frames.{when}
 use Rattle.model.specs.Store.{read}
 use Rattle.model.specs.Parts.{isStopped, isPreOperational, capped}
 use Rattle.model.specs.Service.{service}
-use Rattle.model.specs.Time.{differ, clocked, heartbeatDue, tpdoDue, srdoDue, heartbeatFrame, tpdoFrame, srdoFirst, srdoSecond, firing, ticked, tickFrames, syncFrames, remoteFrames, emcyDue, emcyFrame}
+use Rattle.model.specs.Time.{differ, clocked, heartbeatDue, tpdoDue, srdoDue, heartbeatFrame, tpdoFrame, srdoFirst, srdoSecond, ticked, tickFrames, syncFrames, remoteFrames, emcyDue, emcyFrame}
 use Rattle.model.specs.Sdo.{serves, sdoReply}
 use Rattle.model.specs.Lss.{lssReply}
 use Rattle.model.specs.Rules.{rules, ruleReported}
 use Rattle.model.specs.Changes.{effect, applied}
-use Rattle.model.specs.Step.{changeOf, reply, heard, coreAfter, booted, changed, reports, served, step, powerOn}
+use Rattle.model.specs.Step.{done, refusal, powerOnRefusal, changeOf, reply, heard, coreAfter, booted, changed, reports, served, step, powerOn, Answered, eventAnswer, powerOnAnswer}
 use Rattle.laws.proofs.Tests.{cond-case, and-l, and-r}
 
 -- ---- at most four frames
@@ -108,6 +109,17 @@ at-most-four e s st = served-four (service e) s st
 pub power-on-at-most-four : (i : Identity) (st : List ℕ) → length (powerOn i st .sent) ≤ 4
 unfolding powerOn reply
 power-on-at-most-four i st = four _ Nothing _ st (omega arith)
+
+-- so the count that a call answers is 0..4
+pub event-count : (e : List ℕ) (s : State) (out st : List ℕ) → eventAnswer e s out st .answer .count ≤ 4
+unfolding eventAnswer
+event-count e s out st =
+    cond-case (λ (a : Answered). a .answer .count ≤ 4) (eqb (refusal e s (length out) (length st)) done) (λ _. at-most-four e s st) (λ _. omega arith)
+
+pub power-on-count : (i : Identity) (out st : List ℕ) → powerOnAnswer i out st .answer .count ≤ 4
+unfolding powerOnAnswer
+power-on-count i out st =
+    cond-case (λ (a : Answered). a .answer .count ≤ 4) (eqb (powerOnRefusal (length out) (length st)) done) (λ _. power-on-at-most-four i st) (λ _. omega arith)
 
 -- ---- a tick is quiet
 

@@ -1,21 +1,20 @@
 -- The deed that a line of the log tells is the change that was made: for every service, from its request and the first frame that followed.
 -- Assumes nothing.
-use mathlib.Core.Path.{_≡_, refl, sym, ap, _∙_, subst}
-use mathlib.Core.Bool.{Bool, true, false, _&&_, _||_, not, cond, false≢true}
+use mathlib.Core.Path.{_≡_, refl, ap, _∙_}
+use mathlib.Core.Bool.{Bool, true, false, _&&_, not, cond}
 use mathlib.Core.List.{List, [], _∷_, _++_}
-use Prim.Native.Nat.{ℕ, _+_, _-_, _≤_, _<_}
+use Prim.Native.Nat.{ℕ, _+_, _≤_}
 use native.Mathlib.Omega.{arith}
 use native.Mathlib.Nat.{add-sub-cancel-left}
-use lib.Dec.{eqb, leb}
+use lib.Dec.{eqb}
 use borrow.Author.Tests.{eqb-true, eq-eqb, ne-eqb}
-use Rattle.model.specs.declared.Group.the-variants.{C, A}
+use Rattle.model.specs.declared.Group.the-variants.{C}
 use Rattle.model.specs.declared.Groups.{Groups}
 use Rattle.model.specs.declared.Groups.the-variants.{Both, OnlyC, OnlyA}
 use Rattle.model.specs.declared.Timer.{Timer}
 use Rattle.model.specs.declared.Timer.the-variants.{NoTimer, Heartbeat, Tpdo, Srdo}
 use Rattle.model.specs.declared.Change.{Change}
 use Rattle.model.specs.declared.Change.the-variants.{Keep, Write, Save, TakeOut, Load, SavePending}
-use Rattle.model.specs.declared.Checked.{Checked}
 use Rattle.model.specs.declared.Checked.the-variants.{Refused, Accepted}
 use Rattle.model.specs.declared.Service.{Service}
 use Rattle.model.specs.declared.Service.the-variants.{Nothing, Tick, Sample, Nmt, Sync, Remote, Sdo, Lss}
@@ -29,20 +28,20 @@ use Rattle.model.specs.declared.Settings.{Settings}
 use Rattle.model.specs.declared.Core.{Core}
 use Rattle.model.specs.declared.State.{State}
 use Rattle.model.specs.Choice.{firstHit}
-use Rattle.model.specs.Frames.{when, sdoReplies, heartbeats, lssAnswers, emcys}
+use Rattle.model.specs.Frames.{when, sdoReplies, lssAnswers}
 use Rattle.model.specs.Settings.{has}
-use Rattle.model.specs.Store.{Saved, read, addressFrom}
+use Rattle.model.specs.Store.{Saved, read}
 use Rattle.model.specs.Parts.{idOf, isStopped, isOperational, isPreOperational}
 use Rattle.model.specs.Dictionary.{find}
 use Rattle.model.specs.Changes.{applied}
 use Rattle.model.specs.Time.{timerOf, restart, ticked, synced, answersRemote, remoteAnswered, emcyDue, emcyFrame}
-use Rattle.model.specs.Nmt.{isFor, resetNodeCommand, resetCommunicationCommand, startObeyed, start, stop, obeyed, commanded, resetAsked, nmtChange, readied, cleared, autoStart, reset, bootUp}
-use Rattle.model.specs.Sdo.{writeCode, asked, checkedWrite, changeIn, sdoChange, acknowledged, aborted, writeReply, sdoReply, serves}
+use Rattle.model.specs.Nmt.{isFor, resetNodeCommand, resetCommunicationCommand, startObeyed, start, stop, obeyed, commanded, resetAsked, nmtChange, readied, cleared, autoStart, reset}
+use Rattle.model.specs.Sdo.{writeCode, asked, checkedWrite, changeIn, sdoChange, writeReply, sdoReply, serves}
 use Rattle.model.specs.Lss.{inConfiguration, lssChange, lssReply}
 use Rattle.model.specs.Rules.{rules}
 use Rattle.model.specs.Step.{changeOf, reply, heard, coreAfter, booted, changed, reports, served}
-use Rattle.model.specs.History.{acknowledges, sdoDeed, lssDeed, byFirst, bootId, resetDeed, serviceDeed}
-use Rattle.laws.proofs.Tests.{cond-case, and-l, and-r, and-false, hit-case, within-is}
+use Rattle.model.specs.History.{acknowledges, sdoDeed, lssDeed, byFirst, resetDeed, serviceDeed}
+use Rattle.laws.proofs.Tests.{cond-case, and-l, and-false, hit-case, within-is}
 use Rattle.laws.proofs.Allowed.{Allowed, id-ok, change-allowed}
 use Rattle.laws.proofs.LookBack.{idAfter}
 

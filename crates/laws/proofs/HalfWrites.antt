@@ -1,15 +1,14 @@
 -- Nothing is written by halves. An event leaves every saved parameter and every byte of the store as they were, or the first frame that follows
 -- is the accepting reply: 60h to a download, the boot-up of a reset, or the answer to 17h. A refused call changes nothing at all. Assumes nothing.
-use mathlib.Core.Path.{_≡_, refl, sym, ap, _∙_}
-use mathlib.Core.Bool.{Bool, true, false, _&&_, not, cond}
+use mathlib.Core.Path.{_≡_, refl, ap}
+use mathlib.Core.Bool.{Bool, true, false, _&&_}
 use mathlib.Core.List.{List, [], _∷_, _++_}
 use mathlib.Core.Logic.{_⊎_, inl, inr, ⊎-elim}
 use Prim.Native.Nat.{ℕ}
-use lib.Dec.{eqb}
 use lib.ListN.{length}
 use borrow.Author.Tests.{ne-eqb}
 use Rattle.model.specs.declared.Change.{Change}
-use Rattle.model.specs.declared.Change.the-variants.{Keep, Load}
+use Rattle.model.specs.declared.Change.the-variants.{Keep}
 use Rattle.model.specs.declared.Checked.{Checked}
 use Rattle.model.specs.declared.Checked.the-variants.{Refused, Accepted}
 use Rattle.model.specs.declared.Service.{Service}
@@ -19,6 +18,7 @@ use Rattle.model.specs.declared.SdoRequest.the-variants as R
 use Rattle.model.specs.declared.LssRequest.{LssRequest}
 use Rattle.model.specs.declared.LssRequest.the-variants.{SwitchMode, Select, SetNodeId, SetBitIndex, StorePending, AskIdentity, AskNodeId, OtherLss}
 use Rattle.model.specs.declared.Frame.{Frame}
+use Rattle.model.specs.declared.Identity.{Identity}
 use Rattle.model.specs.declared.State.{State}
 use Rattle.model.specs.Frames.{when}
 use Rattle.model.specs.Store.{Saved, read}
@@ -30,7 +30,7 @@ use Rattle.model.specs.Time.{emcyDue, emcyFrame}
 use Rattle.model.specs.Nmt.{isFor, nmtChange, resetAsked, bootUp}
 use Rattle.model.specs.Sdo.{acknowledged, writeReply, checkedWrite, changeIn, sdoChange, sdoReply, serves}
 use Rattle.model.specs.Lss.{inConfiguration, answered, lssChange, lssReply}
-use Rattle.model.specs.Step.{done, refusal, changeOf, reply, booted, changed, reports, served, step, refused, eventAnswer}
+use Rattle.model.specs.Step.{done, refusal, changeOf, reply, booted, changed, reports, served, step, powerOn, refused, eventAnswer}
 use Rattle.laws.proofs.Tests.{cond-case, hit-case}
 
 -- ---- what an accepting reply is
@@ -125,3 +125,8 @@ pub refused-nothing : (e : List ℕ) (s : State) (out st : List ℕ) → (refusa
     → eventAnswer e s out st ≡ refused (refusal e s (length out) (length st)) s out st
 unfolding eventAnswer
 refused-nothing e s out st h = rw (ne-eqb (refusal e s (length out) (length st)) done h) refl
+
+-- a power-on never writes the store
+pub power-on-store : (i : Identity) (st : List ℕ) → powerOn i st .store ≡ st
+unfolding powerOn served stored
+power-on-store i st = refl

@@ -2,15 +2,14 @@
 -- parameters is what the bus log alone says of it: the last accepted write since its group was loaded, else what was held at that load, else
 -- the default, with the forced changes; and the store holds what the log says. The definitions are those of the model's file History.
 -- Of the events nothing is supposed, and of the first store only that it is bytes. Assumes nothing.
-use mathlib.Core.Path.{_≡_, refl, sym, ap, _∙_, subst, fun-ext}
-use mathlib.Core.Bool.{Bool, true, false, _&&_, _||_, not, cond}
-use mathlib.Core.List.{List, [], _∷_, _++_}
-use Prim.Native.Nat.{ℕ, _+_, _-_, _≤_, _<_}
+use mathlib.Core.Path.{_≡_, refl, ap, subst, fun-ext}
+use mathlib.Core.Bool.{true}
+use mathlib.Core.List.{List, [], _∷_}
+use Prim.Native.Nat.{ℕ, _+_, _-_}
 use native.Mathlib.Nat.{add-sub-cancel-left}
-use lib.Dec.{eqb, leb, lit≤}
+use lib.Dec.{eqb, lit≤}
 use lib.ListN.{length}
-use borrow.Author.Tests.{eqb-true, eq-eqb, not-false}
-use Rattle.model.specs.declared.Value.{Value}
+use borrow.Author.Tests.{eqb-true, not-false}
 use Rattle.model.specs.declared.Parameter.{Parameter}
 use Rattle.model.specs.declared.Groups.the-variants.{Both}
 use Rattle.model.specs.declared.Change.{Change}
@@ -18,7 +17,6 @@ use Rattle.model.specs.declared.Change.the-variants.{Keep, Load}
 use Rattle.model.specs.declared.Service.{Service}
 use Rattle.model.specs.declared.Service.the-variants.{Nothing}
 use Rattle.model.specs.declared.Identity.{Identity}
-use Rattle.model.specs.declared.Settings.{Settings}
 use Rattle.model.specs.declared.State.{State}
 use Rattle.model.specs.Settings.{inForce, made}
 use Rattle.model.specs.Store.{Saved, read, defaultFor, addressFrom}
@@ -26,12 +24,12 @@ use Rattle.model.specs.Parts.{idOf}
 use Rattle.model.specs.Service.{service}
 use Rattle.model.specs.Changes.{effect, applied, stored}
 use Rattle.model.specs.Rules.{rules}
-use Rattle.model.specs.Step.{done, refusal, powerOnRefusal, changeOf, reply, changed, served, step, unborn, powerOn}
-use Rattle.model.specs.Run.{Call, Line, World, begun, after, continued, run}
-use Rattle.model.specs.History.{serviceDeed, deed, activeId, deeds, firstHeld, heldId, value, held}
+use Rattle.model.specs.Step.{done, refusal, powerOnRefusal, changeOf, reply, served, step, unborn, powerOn}
+use Rattle.model.specs.Run.{Call, World, begun, continued, run}
+use Rattle.model.specs.History.{serviceDeed, deed, activeId, deeds, firstHeld, firstHeldId, heldId, value, held}
 use Rattle.laws.proofs.Tests.{cond-case, hit-zero}
 use Rattle.laws.proofs.Bytes.{Bytes}
-use Rattle.laws.proofs.Parameters.{Fits, default-fine, made-is}
+use Rattle.laws.proofs.Parameters.{AllFit, all-typed, default-fine, made-is}
 use Rattle.laws.proofs.Loading.{first-held, address-ok}
 use Rattle.laws.proofs.Allowed.{Allowed, change-allowed}
 use Rattle.laws.proofs.LookBack.{Agrees, agrees-after}
@@ -83,7 +81,7 @@ told-run sv (c ∷ cs) w h = told-run sv cs (continued c w) (told-next sv c w h)
 
 -- ---- the power-on
 
-first-fits : (q : Parameter) → Fits q (defaultFor 1 q)
+first-fits : AllFit (defaultFor 1)
 first-fits q = default-fine q 1 (lit≤ tt) (lit≤ tt) .fits
 
 -- before it: the store as it is, and settings that nobody sees
@@ -91,11 +89,11 @@ pub unborn-agrees : (i : Identity) (st : List ℕ) → Bytes st → Agrees (read
 unfolding value activeId held heldId
 unborn-agrees i st b =
     record {
-      values = made-is (defaultFor 1) (λ q. first-fits q .kind);
+      values = made-is (defaultFor 1) (all-typed (defaultFor 1) first-fits);
       id-is = refl;
       helds = λ q. refl;
       held-id = refl;
-      fits = λ q. rw (made-is (defaultFor 1) (λ p. first-fits p .kind) q) (first-fits q);
+      fits = λ q. rw (made-is (defaultFor 1) (all-typed (defaultFor 1) first-fits) q) (first-fits q);
       fits-held = first-held st b;
     }
 
@@ -123,3 +121,13 @@ history-whole i room st cs e b = ap made (fun-ext (history i room st cs e b))
 pub ledger : (i : Identity) (room : ℕ) (st : List ℕ) (cs : List Call) → powerOnRefusal room (length st) ≡ done → Bytes st → (q : Parameter)
     → firstHeld (read (run cs (begun i room st) .store)) q ≡ held (read st) q (deeds (run cs (begun i room st) .log))
 ledger i room st cs e b q = told-run (read st) cs (begun i room st) (told-begun i room st e b) .helds q
+
+-- the ID that C is held with, too
+pub ledger-id : (i : Identity) (room : ℕ) (st : List ℕ) (cs : List Call) → powerOnRefusal room (length st) ≡ done → Bytes st
+    → firstHeldId (read (run cs (begun i room st) .store)) ≡ heldId (read st) (deeds (run cs (begun i room st) .log))
+ledger-id i room st cs e b = told-run (read st) cs (begun i room st) (told-begun i room st e b) .held-id
+
+-- and the active ID is that of the last boot-up
+pub history-id : (i : Identity) (room : ℕ) (st : List ℕ) (cs : List Call) → powerOnRefusal room (length st) ≡ done → Bytes st
+    → idOf (run cs (begun i room st) .state) ≡ activeId (deeds (run cs (begun i room st) .log))
+history-id i room st cs e b = told-run (read st) cs (begun i room st) (told-begun i room st e b) .id-is

@@ -1,17 +1,17 @@
 -- The store holds one image: records that are accepted come back from the image that they make, and no other image is read as them.
 -- Assumes nothing.
-use mathlib.Core.Path.{_≡_, refl, sym, ap, _∙_}
+use mathlib.Core.Path.{_≡_, refl}
 use mathlib.Core.Bool.{Bool, true, false, _&&_, _||_, cond}
 use mathlib.Core.List.{List, [], _∷_, _++_, append-assoc}
 use mathlib.Core.Logic.{_⊎_, inl, inr, ⊎-elim}
-use Prim.Native.Nat.{ℕ, zero, suc, _+_, _≤_, _<_}
+use Prim.Native.Nat.{ℕ, _+_, _≤_, _<_}
 use native.Mathlib.Omega.{arith}
 use borrow.Author.Tests.{eqb-true, eq-eqb, ne-eqb}
 use lib.Dec.{eqb}
-use lib.ListN.{length, replicate, length-append, length-replicate}
+use lib.ListN.{length, length-append, length-replicate}
 use Rattle.model.specs.declared.Group.{Group}
 use Rattle.model.specs.declared.Group.the-variants.{C, A}
-use Rattle.model.specs.Bytes.{le, unle, part, numberAt, sameBytes}
+use Rattle.model.specs.Bytes.{le, part, numberAt, sameBytes}
 use Rattle.model.specs.Store.{sizeN, sizeOfRecord, soundN, soundRecord, okN, ok, placeIn, packed, placed, build, Saved, nothing, good, lengthAt, nIn, cIn, aIn, savedIf, isGood, read, savedN, saved}
 use Rattle.wire.proofs.Numbers.{length-le, unle-le}
 use Rattle.laws.proofs.Bytes.{part-mid}
@@ -69,7 +69,7 @@ Sized k r = (length r ≡ 0) ⊎ (length r ≡ k)
 sized : (k : ℕ) (r : List ℕ) (b : Bool) → eqb (length r) 0 || (eqb (length r) k && b) ≡ true → Sized k r
 sized k r b h = ⊎-elim (λ e. inl (eqb-true (length r) 0 e)) (λ e. inr (eqb-true (length r) k e)) (or-and (eqb (length r) 0) (eqb (length r) k) b h)
 
-sized-n : (r : List ℕ) → okN r ≡ true → Sized sizeN r
+pub sized-n : (r : List ℕ) → okN r ≡ true → Sized sizeN r
 unfolding okN
 sized-n r h = sized sizeN r (soundN r) h
 
@@ -77,7 +77,7 @@ pub sized-of : (g : Group) (r : List ℕ) → ok g r ≡ true → Sized (sizeOfR
 unfolding ok
 sized-of g r h = sized (sizeOfRecord g) r (soundRecord g r) h
 
-size-le : (k : ℕ) (r : List ℕ) → Sized k r → length r ≤ k
+pub size-le : (k : ℕ) (r : List ℕ) → Sized k r → length r ≤ k
 size-le k r o = ⊎-elim (λ e. omega arith) (λ e. omega arith) o
 
 -- a number behind some bytes

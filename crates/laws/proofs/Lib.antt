@@ -13,6 +13,7 @@ pub mod Sound
 pub mod CoreRules
 pub mod Count
 pub mod RulesKept
+pub mod StoreSize
 pub mod Pairs
 pub mod PairsInLog
 pub mod HalfWrites

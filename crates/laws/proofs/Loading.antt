@@ -1,28 +1,28 @@
 -- What a load gives, by what the store holds: each parameter's own record, else its default, with the COB-ID rule. Assumes nothing.
 use mathlib.Core.Path.{_≡_, refl, sym, ap, _∙_, subst}
-use mathlib.Core.Bool.{Bool, true, false, _&&_, _||_, not, cond}
+use mathlib.Core.Bool.{Bool, true, false, _&&_, not, cond}
 use mathlib.Core.List.{List, [], _∷_, _++_, append-nil}
-use Prim.Native.Nat.{ℕ, zero, suc, _≤_, _<_}
+use Prim.Native.Nat.{ℕ, suc, _≤_}
 use native.Mathlib.Omega.{arith}
-use lib.Dec.{eqb, leb}
+use lib.Dec.{eqb}
 use lib.ListN.{length}
-use borrow.Author.Tests.{eqb-true, eq-eqb, ne-eqb}
+use borrow.Author.Tests.{ne-eqb}
 use Rattle.model.specs.declared.Value.{Value}
 use Rattle.model.specs.declared.Parameter.{Parameter}
 use Rattle.model.specs.declared.Group.{Group}
 use Rattle.model.specs.declared.Group.the-variants.{C, A}
 use Rattle.model.specs.declared.Groups.{Groups}
 use Rattle.model.specs.Bytes.{part, byteAt}
-use Rattle.model.specs.Values.{widthOf, kindOf}
-use Rattle.model.specs.Settings.{row, rows, has, judge, isInside, inRanges}
-use Rattle.model.specs.Validity.{honest, sound}
-use Rattle.model.specs.Store.{recordOf, sizeOfRecord, placeOf, field, nodeId, bitIndex, soundN, soundRecord, okN, ok, build, Saved, nothing, good, lengthAt, nIn, cIn, aIn, savedIf, isGood, read, savedN, saved, orElse, defaultFor, factory, factoryPlace, groupFrom, followsId, loaded, addressFrom, renewedRecord, renewed}
+use Rattle.model.specs.Values.{widthOf}
+use Rattle.model.specs.Settings.{row, has}
+use Rattle.model.specs.Validity.{sound}
+use Rattle.model.specs.Store.{recordOf, sizeOfRecord, placeOf, field, nodeId, bitIndex, soundN, soundRecord, okN, ok, build, Saved, nIn, cIn, aIn, savedIf, isGood, read, savedN, saved, orElse, defaultFor, factory, factoryPlace, groupFrom, followsId, loaded, addressFrom, renewed}
 use Rattle.model.specs.History.{Held, absent, kept, heldIn, firstHeld, headOf, firstHeldId, isOther, settled}
-use Rattle.laws.proofs.Tests.{cond-case, cond-same, cond-ap, and-l, and-r}
+use Rattle.laws.proofs.Tests.{cond-case, cond-ap, and-l, and-r}
 use Rattle.laws.proofs.Bytes.{Bytes, bytes-part, part-lt, part-mid}
 use Rattle.laws.proofs.Values.{typed-kind, typed-holds}
-use Rattle.laws.proofs.Image.{read-n, read-ok}
-use Rattle.laws.proofs.Parameters.{in-rows, Fits, Fine, range-at, default-fine}
+use Rattle.laws.proofs.Image.{read-n}
+use Rattle.laws.proofs.Parameters.{Fits, AllFit, all-typed, default-fine}
 use Rattle.laws.proofs.Saving.{length-record, follows-c, field-record, loaded-record, built-saved, renewed-saved}
 
 -- ---- what a store holds
@@ -68,18 +68,18 @@ first-held st b q = go (saved (row q .group) (read st)) (read-bytes (row q .grou
 
 -- ---- what a load gives
 
-default-fits : (id : ℕ) → 1 ≤ id → id ≤ 127 → (q : Parameter) → Fits q (defaultFor id q)
+default-fits : (id : ℕ) → 1 ≤ id → id ≤ 127 → AllFit (defaultFor id)
 default-fits id a b q = default-fine q id a b .fits
 
 -- a group's part of the factory block is the record of the defaults
 pub factory-part : (g : Group) (id : ℕ) → 1 ≤ id → id ≤ 127 → part (factoryPlace g) (sizeOfRecord g) (factory id) ≡ recordOf g id (defaultFor id)
 unfolding factory
 factory-part C id a b =
-    part-mid [] (recordOf C id (defaultFor id)) (recordOf A id (defaultFor id)) 0 21 refl (length-record C id (defaultFor id) (default-fits id a b))
+    part-mid [] (recordOf C id (defaultFor id)) (recordOf A id (defaultFor id)) 0 21 refl (length-record C id (defaultFor id) (all-typed _ (default-fits id a b)))
 factory-part A id a b =
     subst (λ (l : List ℕ). part 21 17 (recordOf C id (defaultFor id) ++ l) ≡ recordOf A id (defaultFor id)) (append-nil (recordOf A id (defaultFor id)))
-    (part-mid (recordOf C id (defaultFor id)) (recordOf A id (defaultFor id)) [] 21 17 (length-record C id (defaultFor id) (default-fits id a b))
-    (length-record A id (defaultFor id) (default-fits id a b)))
+    (part-mid (recordOf C id (defaultFor id)) (recordOf A id (defaultFor id)) [] 21 17 (length-record C id (defaultFor id) (all-typed _ (default-fits id a b)))
+    (length-record A id (defaultFor id) (all-typed _ (default-fits id a b))))
 
 -- the COB-ID rule looks at the ID that is held with C
 other-id : (q : Parameter) (sv : Saved) (id x : ℕ) (xs : List ℕ) → saved (row q .group) sv ≡ x ∷ xs
@@ -115,9 +115,9 @@ held-there f [] n e = absurd (omega arith)
 held-there f (x ∷ xs) n e = refl
 
 -- of a record that was made of values, these
-pub held-record : (q : Parameter) (id : ℕ) (f : Parameter → Value) → ((p : Parameter) → Fits p (f p))
+pub held-record : (q : Parameter) (id : ℕ) (f : Parameter → Value) → AllFit f
     → heldIn (λ (r : List ℕ). field r q) (recordOf (row q .group) id f) ≡ kept (f q)
-held-record q id f h = go (row q .group) (length-record (row q .group) id f h) ∙ ap kept (field-record q id f h)
+held-record q id f h = go (row q .group) (length-record (row q .group) id f (all-typed f h)) ∙ ap kept (field-record q id f h)
   where
     go : (g : Group) → length (recordOf g id f) ≡ sizeOfRecord g
         → heldIn (λ (r : List ℕ). field r q) (recordOf g id f) ≡ kept (field (recordOf g id f) q)

@@ -1,35 +1,30 @@
 -- A change, and the look back over the deeds: if settings and store are what the older deeds say, then after a change that is allowed they are
 -- what the deeds with that change in front say. Assumes nothing.
 use mathlib.Core.Path.{_≡_, refl, sym, ap, _∙_, subst}
-use mathlib.Core.Bool.{Bool, true, false, _&&_, _||_, not, cond}
+use mathlib.Core.Bool.{true, _&&_}
 use mathlib.Core.List.{List, [], _∷_}
-use Prim.Native.Nat.{ℕ, _≤_}
-use lib.Dec.{eqb}
+use Prim.Native.Nat.{ℕ}
 use Rattle.model.specs.declared.Value.{Value}
 use Rattle.model.specs.declared.Value.the-variants.{U8}
 use Rattle.model.specs.declared.Parameter.{Parameter}
 use Rattle.model.specs.declared.Group.{Group}
-use Rattle.model.specs.declared.Group.the-variants.{C, A}
-use Rattle.model.specs.declared.Groups.{Groups}
 use Rattle.model.specs.declared.Change.{Change}
 use Rattle.model.specs.declared.Change.the-variants.{Keep, Write, Save, TakeOut, Load, SavePending}
 use Rattle.model.specs.declared.Settings.{Settings}
 use Rattle.model.specs.declared.State.{State}
-use Rattle.model.specs.Values.{kindOf}
-use Rattle.model.specs.Settings.{row, same, has, inForce, Now, stays, becomes, altered}
+use Rattle.model.specs.Settings.{row, same, has, inForce, Now, stays, becomes}
 use Rattle.model.specs.Validity.{validityOf, unmarks, changes}
-use Rattle.model.specs.Store.{recordN, recordOf, field, nodeId, bitIndex, soundN, okN, ok, Saved, read, savedN, saved, loaded, renewed, readdressed}
-use Rattle.model.specs.Changes.{unmarked, effect, applied, recordsOf, stored}
+use Rattle.model.specs.Store.{recordN, recordOf, soundN, okN, ok, Saved, read, saved, readdressed}
+use Rattle.model.specs.Changes.{effect, applied, recordsOf, stored}
 use Rattle.model.specs.Parts.{idOf}
-use Rattle.model.specs.History.{activeId, Held, absent, kept, firstHeld, firstHeldId, heldId, settled, value, held}
+use Rattle.model.specs.History.{activeId, firstHeld, firstHeldId, heldId, value, held}
 use Rattle.model.specs.Rules.{rules}
 use Rattle.laws.proofs.Tests.{cond-case, cond-ap, and-l, and-r, and-both, within-is}
-use Rattle.laws.proofs.Bytes.{Bytes}
 use Rattle.laws.proofs.Image.{read-ok}
-use Rattle.laws.proofs.Parameters.{same-eq, Fits, Fine, zero-fine, after, KindNow, altered-is}
+use Rattle.laws.proofs.Parameters.{same-eq, Fits, AllFit, zero-fine, after, KindNow, altered-is}
 use Rattle.laws.proofs.Saving.{record-ok}
 use Rattle.laws.proofs.Loading.{FitsHeld, loaded-settled, loaded-fits, held-record, built-held, built-id, renewed-held, renewed-id}
-use Rattle.laws.proofs.Allowed.{Written, Allowed, id-ok, pending-ok, pending-bit-ok, sound-ok}
+use Rattle.laws.proofs.Allowed.{Allowed, id-ok, pending-ok, pending-bit-ok, sound-ok}
 
 -- the settings k in force, the active ID and the store are as the deeds say, where at first sv was saved; and what is in force or held fits its type
 pub record Agrees (sv : Saved) (k : Settings) (id : ℕ) (st : List ℕ) (ds : List Change) : Type 0 where
@@ -37,7 +32,7 @@ pub record Agrees (sv : Saved) (k : Settings) (id : ℕ) (st : List ℕ) (ds : L
   pub id-is : id ≡ activeId ds
   pub helds : (q : Parameter) → firstHeld (read st) q ≡ held sv q ds
   pub held-id : firstHeldId (read st) ≡ heldId sv ds
-  pub fits : (q : Parameter) → Fits q (inForce k q)
+  pub fits : AllFit (inForce k)
   pub fits-held : (q : Parameter) → FitsHeld q (firstHeld (read st) q)
 
 -- the active ID after a change

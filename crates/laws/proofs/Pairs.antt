@@ -1,21 +1,22 @@
 -- Safety pairs. Over any run, a frame with a CAN-ID in 101h..180h stands in a pair that one tick sends: the first carries the bits of PV on
 -- 1301h:5, the second their inverse on 1301h:6; and at that moment both signatures are the CRCs of the values in force, 1301h:6 is 1301h:5 + 1,
 -- and the reading is not capped. No other frame of the node has such a CAN-ID. Assumes nothing.
-use mathlib.Core.Path.{_≡_, refl, sym, ap, _∙_, subst, subst₂}
-use mathlib.Core.Bool.{Bool, true, false, _&&_, _||_, not, cond, false≢true}
+use mathlib.Core.Path.{_≡_, refl}
+use mathlib.Core.Bool.{Bool, true, false, _&&_, _||_, not}
 use mathlib.Core.List.{List, [], _∷_, _++_}
-use Prim.Native.Nat.{ℕ, _+_, _-_, _≤_, _<_}
+use Prim.Native.Nat.{ℕ, _+_, _-_, _^_, _≤_, _<_}
 use native.Mathlib.Omega.{arith}
-use lib.Dec.{eqb, leb, lit<, lit≤}
+use lib.Dec.{eqb, leb}
 use lib.ListN.{length}
 use lib.Ieee.{binary32, toBits}
+use lib.Ieee.Bits.{toBits-lt}
+use lib.Ieee.Fits.{add-fits}
 use borrow.Author.Tests.{eqb-true, lt-leb, not-true}
 use Rattle.model.specs.declared.Group.{Group}
 use Rattle.model.specs.declared.Group.the-variants.{C, A}
 use Rattle.model.specs.declared.Groups.the-variants.{Both}
 use Rattle.model.specs.declared.Change.{Change}
 use Rattle.model.specs.declared.Change.the-variants.{Keep, Write, Save, TakeOut, Load, SavePending}
-use Rattle.model.specs.declared.Entry.{Entry}
 use Rattle.model.specs.declared.Found.{Found}
 use Rattle.model.specs.declared.Found.the-variants.{NoObject, NoSub, At}
 use Rattle.model.specs.declared.Content.{Content}
@@ -44,15 +45,15 @@ use Rattle.model.specs.Dictionary.{find, contentOf}
 use Rattle.model.specs.Service.{service}
 use Rattle.model.specs.Changes.{effect, applied}
 use Rattle.model.specs.Time.{communication, sendsAt, syncSends, answersRemote, clocked, heartbeatDue, tpdoDue, srdoDue, heartbeatFrame, tpdoFrame, srdoFirst, srdoSecond, ticked, tickFrames, syncFrames, remoteFrames, emcyDue, emcyFrame}
-use Rattle.model.specs.Nmt.{startObeyed, bootUp}
+use Rattle.model.specs.Nmt.{startObeyed}
 use Rattle.model.specs.Sdo.{readFrom, uploaded, sendsSegment, segmentReply, checkedWrite, writeReply, sdoReply, serves}
 use Rattle.model.specs.Lss.{answered, lssReply}
 use Rattle.model.specs.Rules.{rules}
-use Rattle.model.specs.Step.{done, refusal, powerOnRefusal, changeOf, reply, booted, heard, coreAfter, changed, reports, served, step, unborn, powerOn, zeroStore}
-use Rattle.model.specs.Run.{Call, Line, powered, called, sentIn, World, begun, continued, run}
+use Rattle.model.specs.Step.{done, refusal, powerOnRefusal, changeOf, reply, booted, heard, coreAfter, changed, reports, served, step, unborn, powerOn}
+use Rattle.model.specs.Run.{Call, Line, sentIn, World, begun, continued}
 use Rattle.laws.proofs.Tests.{cond-case, and-l, and-r, and-false, implies, within-is}
 use Rattle.laws.proofs.Loading.{address-ok}
-use Rattle.laws.proofs.Allowed.{Allowed, id-ok, sound-ok, change-allowed}
+use Rattle.laws.proofs.Allowed.{id-ok, sound-ok, change-allowed}
 use Rattle.laws.proofs.Deeds.{served-id-most}
 use Rattle.laws.proofs.CoreRules.{start-ok}
 use Rattle.laws.proofs.RulesKept.{unborn-rules, begun-rules, continued-rules}
@@ -66,6 +67,14 @@ safety f = within 0x101 0x180 (f .id)
 -- the bits of PV, of settings and FV
 abbrev pub bitsOf : Settings → Fv → ℕ
 bitsOf k fv = toBits binary32 (pvOf (k .application .scaling) fv .0)
+
+-- they are 32, so that taking them from FFFFFFFFh inverts each
+pub bits-fit : (k : Settings) (fv : Fv) → bitsOf k fv < 2 ^ 32
+unfolding pvOf
+bits-fit k fv = toBits-lt binary32 _ (add-fits binary32 _ _)
+
+pub inverse-of : (k : Settings) (fv : Fv) → bitsOf k fv + (0xffffffff - bitsOf k fv) ≡ 0xffffffff
+inverse-of k fv = let h : bitsOf k fv < 2 ^ 32 = bits-fit k fv in omega arith
 
 -- frames a and b are a pair in the answer to v, with the settings k and FV in force
 pub record Pair (v : Service) (k : Settings) (fv : Fv) (a b : Frame) : Type 0 where

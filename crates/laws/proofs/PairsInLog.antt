@@ -1,8 +1,8 @@
 -- Safety pairs by the bus log alone: in the log of any run from a power-on that is not refused, the COB-IDs, the reading and the signatures of a
 -- pair are those of the values that the log up to that line tells, and of the FV that it tells. Assumes nothing.
-use mathlib.Core.Path.{_≡_, refl, sym, ap, _∙_, subst₂, fun-ext}
-use mathlib.Core.Bool.{Bool, true, false, cond, not, _&&_}
-use mathlib.Core.List.{List, [], _∷_, _++_}
+use mathlib.Core.Path.{_≡_, refl, ap, _∙_, subst₂, fun-ext}
+use mathlib.Core.Bool.{true, cond, not, _&&_}
+use mathlib.Core.List.{List, [], _∷_}
 use Prim.Native.Nat.{ℕ}
 use lib.Dec.{eqb}
 use lib.ListN.{length}
@@ -29,17 +29,17 @@ use Rattle.model.specs.Parts.{idOf, isOperational, isPreOperational}
 use Rattle.model.specs.Service.{service}
 use Rattle.model.specs.Changes.{applied}
 use Rattle.model.specs.Time.{timerOf, restart, ticked, synced, answersRemote, remoteAnswered}
-use Rattle.model.specs.Nmt.{isFor, startObeyed, start, stop, obeyed, commanded, nmtChange, resetAsked, readied, cleared, autoStart, reset}
+use Rattle.model.specs.Nmt.{isFor, startObeyed, start, stop, obeyed, commanded, readied, cleared, autoStart, reset}
 use Rattle.model.specs.Sdo.{serves}
 use Rattle.model.specs.Rules.{rules}
-use Rattle.model.specs.Step.{done, refusal, powerOnRefusal, changeOf, heard, coreAfter, changed, served, step, unborn, powerOn}
+use Rattle.model.specs.Step.{done, refusal, powerOnRefusal, changeOf, heard, coreAfter, served, step, unborn, powerOn}
 use Rattle.model.specs.Run.{Call, Line, powered, called, sentIn, World, begun, after, continued, run}
 use Rattle.model.specs.History.{serviceDeed, activeId, deeds, value}
 use Rattle.laws.proofs.Tests.{cond-case, hit-case}
 use Rattle.laws.proofs.Bytes.{Bytes}
 use Rattle.laws.proofs.Allowed.{Allowed, change-allowed}
 use Rattle.laws.proofs.History.{Told, refusal-rules, told-deed, told-next, told-begun}
-use Rattle.laws.proofs.Pairs.{Safe, none, SafeIn, step-safe, power-on-safe}
+use Rattle.laws.proofs.Pairs.{Safe, none, step-safe, power-on-safe}
 
 -- ---- what the log says of FV
 

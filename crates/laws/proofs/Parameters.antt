@@ -1,10 +1,10 @@
 -- The seventeen saved parameters: what may stand in each, and that the values in force are read back as they were set. Assumes nothing.
-use mathlib.Core.Path.{_≡_, refl, sym, ap, _∙_, subst, fun-ext}
-use mathlib.Core.Bool.{Bool, true, false, _&&_, _||_, not, cond, false≢true}
+use mathlib.Core.Path.{_≡_, refl, sym, ap, _∙_, subst}
+use mathlib.Core.Bool.{Bool, true, false, _&&_, _||_, false≢true}
 use mathlib.Core.List.{List, [], _∷_}
-use Prim.Native.Nat.{ℕ, zero, suc, _+_, _*_, _%_, _≤_, _<_}
+use Prim.Native.Nat.{ℕ, zero, suc, _+_, _*_, _%_, _≤_}
 use native.Mathlib.Omega.{arith}
-use lib.Dec.{eqb, leb, ltb, lit<, lit≤}
+use lib.Dec.{ltb, lit<, lit≤}
 use lib.ListN.{getD}
 use lib.Ieee.{Float, binary32, ofBits}
 use lib.Ieee.Bits.{ofBits-fits}
@@ -18,12 +18,12 @@ use Rattle.model.specs.declared.Parameter.the-variants.{P1017, P1301s1, P1301s2
 use Rattle.model.specs.declared.Group.{Group}
 use Rattle.model.specs.declared.Group.the-variants.{C, A}
 use Rattle.model.specs.declared.Settings.{Settings}
-use Rattle.model.specs.Values.{widthOf, kindOf, numberOf, typed, floatOf}
+use Rattle.model.specs.Values.{kindOf, numberOf, typed, floatOf}
 use Rattle.model.specs.Reading.{judgeReal}
-use Rattle.model.specs.Settings.{row, table, same, among, sameGroup, rows, inForce, Now, stays, becomes, whole, float, altered, made, blank, oddCob, evenCob, firstCob, secondCob, judge, isInside, inRanges}
+use Rattle.model.specs.Settings.{row, table, same, among, sameGroup, rows, inForce, Now, stays, becomes, whole, float, altered, made, blank, firstCob, secondCob, judge, isInside, inRanges}
 use Rattle.model.specs.Validity.{validityOf}
 use Rattle.model.specs.Store.{defaultFor}
-use Rattle.laws.proofs.Tests.{cond-case, and-l, and-r, and-both, is-within}
+use Rattle.laws.proofs.Tests.{cond-case, and-l, and-r, and-both}
 use Rattle.laws.proofs.Values.{Holds}
 
 -- ---- the table
@@ -96,6 +96,16 @@ pub record Fine (p : Parameter) (v : Value) : Type 0 where
   pub fits : Fits p v
   pub inside : isInside (judge (row p .range) v) ≡ true
 
+-- every parameter has a value that fits it, or at least one of its type
+abbrev pub AllFit : (Parameter → Value) → Type 0
+AllFit f = (q : Parameter) → Fits q (f q)
+
+abbrev pub AllTyped : (Parameter → Value) → Type 0
+AllTyped f = (q : Parameter) → kindOf (f q) ≡ row q .kind
+
+pub all-typed : (f : Parameter → Value) → AllFit f → AllTyped f
+all-typed f h q = h q .kind
+
 -- each of some rows in range is in range
 pub range-at : (ps : List Parameter) (f : Parameter → Value) (p : Parameter) → among ps p ≡ true → inRanges ps f ≡ true → isInside (judge (row p .range) (f p)) ≡ true
 unfolding inRanges
@@ -156,7 +166,7 @@ default-fine P51FF id a b = record { fits = record { kind = refl; holds = lit< t
 -- ---- the values in force
 
 -- each is of its parameter's type
-pub in-force-kind : (k : Settings) (p : Parameter) → kindOf (inForce k p) ≡ row p .kind
+pub in-force-kind : (k : Settings) → AllTyped (inForce k)
 in-force-kind k P1017 = refl
 in-force-kind k P1301s1 = refl
 in-force-kind k P1301s2 = refl
@@ -174,6 +184,10 @@ in-force-kind k P6124 = refl
 in-force-kind k P6132 = refl
 in-force-kind k P51FE = refl
 in-force-kind k P51FF = refl
+
+-- so it fits if its type holds it
+pub in-force-fits : (k : Settings) → ((q : Parameter) → Holds (inForce k q)) → AllFit (inForce k)
+in-force-fits k h q = record { kind = in-force-kind k q; holds = h q }
 
 -- and after an alteration
 abbrev pub after : Now → Value → Value
@@ -234,7 +248,7 @@ altered-is now k h P51FE = whole-after P51FE (now P51FE) _ refl (h P51FE)
 altered-is now k h P51FF = whole-after P51FF (now P51FF) _ refl (h P51FF)
 
 -- settings made of values have those values, and are made of those that they have
-pub made-is : (f : Parameter → Value) → ((p : Parameter) → kindOf (f p) ≡ row p .kind) → (p : Parameter) → inForce (made f) p ≡ f p
+pub made-is : (f : Parameter → Value) → AllTyped f → (p : Parameter) → inForce (made f) p ≡ f p
 made-is f h p = altered-is (λ (q : Parameter). becomes (f q)) blank h p
 
 pub made-back : (k : Settings) → made (inForce k) ≡ k

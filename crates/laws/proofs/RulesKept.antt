@@ -1,51 +1,47 @@
 -- The state rules are kept: a power-on hands back a state that keeps them, refused or not, and an event takes such a state to such a state,
 -- whatever its bytes and the store are. So over any run no call is refused by number 6. Assumes nothing.
-use mathlib.Core.Path.{_≡_, refl, sym, ap, _∙_, subst, subst₂}
-use mathlib.Core.Bool.{Bool, true, false, _&&_, _||_, not, cond, false≢true}
+use mathlib.Core.Path.{_≡_, refl, sym, ap, _∙_, subst}
+use mathlib.Core.Bool.{Bool, true, false, _&&_, _||_, not, false≢true}
 use mathlib.Core.List.{List, [], _∷_}
-use Prim.Native.Nat.{ℕ, _≤_}
+use Prim.Native.Nat.{ℕ}
 use native.Mathlib.Omega.{arith}
 use lib.Dec.{eqb}
 use lib.ListN.{length}
-use borrow.Author.Tests.{eqb-true}
 use Rattle.model.specs.declared.Value.{Value}
-use Rattle.model.specs.declared.Value.the-variants.{U8}
 use Rattle.model.specs.declared.Parameter.{Parameter}
 use Rattle.model.specs.declared.Parameter.the-variants.{P1301s1, P1800s2, P13FE, P51FE}
 use Rattle.model.specs.declared.Group.{Group}
 use Rattle.model.specs.declared.Group.the-variants.{C, A}
-use Rattle.model.specs.declared.Groups.{Groups}
 use Rattle.model.specs.declared.Groups.the-variants.{Both}
 use Rattle.model.specs.declared.Change.{Change}
 use Rattle.model.specs.declared.Change.the-variants.{Keep, Write, Save, TakeOut, Load, SavePending}
 use Rattle.model.specs.declared.Service.{Service}
 use Rattle.model.specs.declared.Service.the-variants.{Nothing, Tick, Sample, Nmt, Sync, Remote, Sdo, Lss}
-use Rattle.model.specs.declared.Sending.{Sending}
 use Rattle.model.specs.declared.Identity.{Identity}
 use Rattle.model.specs.declared.Settings.{Settings}
 use Rattle.model.specs.declared.Core.{Core}
 use Rattle.model.specs.declared.State.{State}
 use Rattle.model.specs.Choice.{firstHit}
 use Rattle.model.specs.Values.{numberOf}
-use Rattle.model.specs.Settings.{row, rows, same, among, has, inForce, inRanges, Now, stays, becomes, made}
-use Rattle.model.specs.Validity.{covered, signatureOf, validityOf, A5h, honest, sound, unmarks, changes}
-use Rattle.model.specs.Store.{Saved, read, defaultFor, addressFrom}
-use Rattle.model.specs.Changes.{unmarked, effect, applied}
-use Rattle.model.specs.Parts.{withCore, withReported, idOf, isStopped, isOperational, isPreOperational, capped}
+use Rattle.model.specs.Settings.{row, rows, same, among, has, inForce, inRanges, Now, stays}
+use Rattle.model.specs.Validity.{covered, signatureOf, validityOf, honest, sound, unmarks, changes}
+use Rattle.model.specs.Store.{Saved, read, addressFrom}
+use Rattle.model.specs.Changes.{effect, applied}
+use Rattle.model.specs.Parts.{idOf, isStopped, isOperational, isPreOperational, capped}
 use Rattle.model.specs.Service.{service}
 use Rattle.model.specs.Time.{communication, timerOf, restart, ticked, differ, emcyDue}
-use Rattle.model.specs.Nmt.{isFor, startObeyed, nmtChange, resetAsked, reset}
+use Rattle.model.specs.Nmt.{isFor, startObeyed, nmtChange, resetAsked}
 use Rattle.model.specs.Sdo.{serves}
 use Rattle.model.specs.Rules.{rules, ruleIds, ruleBits, ruleNmt, ruleRanges, ruleMarks, ruleStart, ruleReported, ruleLss, ruleSync, ruleUpload}
 use Rattle.model.specs.Step.{done, brokenState, refusal, powerOnRefusal, changeOf, heard, coreAfter, changed, reports, reportedAfter, served, step, unborn, powerOn, zeroStore}
 use Rattle.model.specs.Run.{Call, World, begun, continued, run}
 use Rattle.model.proofs.Everything.{everything}
-use Rattle.laws.proofs.Tests.{cond-case, and-l, and-r, and-both, and-false, implies, off, hit-case}
+use Rattle.laws.proofs.Tests.{cond-case, and-l, and-r, and-false, implies, off, hit-case}
 use Rattle.laws.proofs.Parameters.{same-eq, by-table}
 use Rattle.laws.proofs.Loading.{address-ok}
-use Rattle.laws.proofs.Allowed.{Written, Allowed, change-allowed}
-use Rattle.laws.proofs.Sound.{new, applied-new, sound-after}
-use Rattle.laws.proofs.CoreRules.{CoreOk, core-ok, StartOk, SyncOk, CountOk, start-ok, sync-ok, zero-sync, heard-core, heard-start, heard-sync, restart-core, restart-nmt, restart-sync, reset-core, reset-start, reset-sync}
+use Rattle.laws.proofs.Allowed.{Allowed, change-allowed}
+use Rattle.laws.proofs.Sound.{applied-new, sound-after}
+use Rattle.laws.proofs.CoreRules.{CoreOk, core-ok, CountOk, start-ok, sync-ok, zero-sync, heard-core, heard-start, heard-sync, restart-core, restart-nmt, restart-sync, reset-core, reset-start, reset-sync}
 use Rattle.laws.proofs.Count.{flag-right}
 
 -- ---- a write of an entry that is not marked leaves the marked ones, and so Start

@@ -1,14 +1,11 @@
 -- Every change leaves the saved parameters sound: in range, and with no false validity byte. Assumes nothing.
 use mathlib.Core.Path.{_≡_, refl, sym, ap, _∙_, subst, fun-ext}
 use mathlib.Core.Bool.{Bool, true, false, _&&_, _||_, not, cond}
-use mathlib.Core.List.{List, [], _∷_, _++_}
-use Prim.Native.Nat.{ℕ, _+_, _≤_}
-use native.Mathlib.Omega.{arith}
-use lib.Dec.{eqb, leb}
-use borrow.Author.Tests.{eqb-true, eq-eqb, not-false, not-true}
+use mathlib.Core.List.{List, [], _∷_}
+use Prim.Native.Nat.{ℕ, _≤_}
+use lib.Dec.{eqb}
+use borrow.Author.Tests.{eqb-true, not-false, not-true}
 use Rattle.model.specs.declared.Value.{Value}
-use Rattle.model.specs.declared.Value.the-variants.{U8}
-use Rattle.model.specs.declared.Kind.{Kind}
 use Rattle.model.specs.declared.Parameter.{Parameter}
 use Rattle.model.specs.declared.Parameter.the-variants.{P1301s1, P1301s2, P1301s3, P1301s5, P1301s6, P13FE, P13FF, P6121, P6123, P6124, P6132, P51FE, P51FF}
 use Rattle.model.specs.declared.Group.{Group}
@@ -18,22 +15,21 @@ use Rattle.model.specs.declared.Change.{Change}
 use Rattle.model.specs.declared.Change.the-variants.{Keep, Write, Save, TakeOut, Load, SavePending}
 use Rattle.model.specs.declared.Settings.{Settings}
 use Rattle.model.specs.declared.State.{State}
-use Rattle.model.specs.Bytes.{le, byteAt}
-use Rattle.model.specs.Signature.{crcOf}
-use Rattle.model.specs.Values.{widthOf, kindOf, numberOf, encoded}
-use Rattle.model.specs.Settings.{row, rows, same, among, has, bytesOf, inForce, Now, stays, becomes, altered, judge, isInside, inRanges}
-use Rattle.model.specs.Validity.{covered, signatureOf, validityOf, mappings, signs, valid, A5h, marked, honest, sound, unmarks, changes}
-use Rattle.model.specs.Store.{recordOf, field, nodeId, ok, Saved, read, saved, defaultFor, groupFrom, followsId, loaded}
+use Rattle.model.specs.Bytes.{byteAt}
+use Rattle.model.specs.Values.{kindOf, numberOf, encoded}
+use Rattle.model.specs.Settings.{row, rows, same, among, has, bytesOf, inForce, Now, stays, becomes, judge, isInside, inRanges}
+use Rattle.model.specs.Validity.{covered, signatureOf, validityOf, signs, valid, A5h, honest, sound, unmarks, changes}
+use Rattle.model.specs.Store.{field, nodeId, ok, Saved, read, saved, defaultFor, groupFrom, followsId, loaded}
 use Rattle.model.specs.Changes.{unmarked, effect, applied}
 use Rattle.model.specs.Sdo.{falseMark}
 use Rattle.model.specs.Rules.{rules}
-use Rattle.laws.proofs.Tests.{cond-case, cond-ap, and-l, and-r, and-both, and-false, implies, off, within-is}
+use Rattle.laws.proofs.Tests.{cond-case, and-l, and-r, and-both, and-false, implies, within-is}
 use Rattle.laws.proofs.Values.{typed-kind}
 use Rattle.laws.proofs.Image.{read-ok}
-use Rattle.laws.proofs.Parameters.{same-eq, same-self, by-table, in-rows, Fits, Fine, range-at, ranges-from, zero-fine, default-fine, in-force-kind, after, KindNow, altered-is}
-use Rattle.laws.proofs.Saving.{ranges-in, sound-by, follows-c, loaded-record}
+use Rattle.laws.proofs.Parameters.{same-eq, by-table, in-rows, range-at, ranges-from, zero-fine, default-fine, in-force-kind, after, KindNow, altered-is}
+use Rattle.laws.proofs.Saving.{ranges-in, sound-by, loaded-record}
 use Rattle.laws.proofs.Loading.{sound-there, sound-fields, factory-part}
-use Rattle.laws.proofs.Allowed.{Written, Allowed, sound-ok}
+use Rattle.laws.proofs.Allowed.{Allowed, sound-ok}
 
 -- ---- validity looks at covered parameters and signatures, by their numbers and bytes alone
 

@@ -1,13 +1,13 @@
 -- Values travel with their types: encoding and decoding are inverse, for every type. Assumes nothing.
-use mathlib.Core.Path.{_≡_, refl, sym, ap, _∙_}
-use mathlib.Core.Bool.{Bool, true, false, not}
-use Prim.Native.Nat.{ℕ, _%_, _^_, _*_, _<_}
+use mathlib.Core.Path.{_≡_, refl, ap, _∙_}
+use mathlib.Core.Bool.{not}
+use Prim.Native.Nat.{ℕ, _%_, _^_, _<_}
 use native.Mathlib.Omega.{arith}
 use lib.Dec.{T}
 use mir.Syntax.{w32}
-use mir.Val.{SFits, ofZ, toZ}
+use mir.Val.{SFits}
 use mir.ValLaws.{toZ-ofZ, ofZ-toZ, ofZ-fits, toZ-fits}
-use lib.Ieee.{Float, fits, isNan, binary32, ofBits, toBits}
+use lib.Ieee.{fits, isNan, binary32, ofBits}
 use lib.Ieee.Bits.{ofBits-toBits, toBits-ofBits, toBits-lt, ofBits-fits}
 use Rattle.model.specs.declared.Value.{Value}
 use Rattle.model.specs.declared.Value.the-variants.{U8, U16, U32, Integer32, Real32}
