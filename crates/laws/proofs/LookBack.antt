@@ -1,27 +1,25 @@
 -- A change, and the look back over the deeds: if settings and store are what the older deeds say, then after a change that is allowed they are
 -- what the deeds with that change in front say. Assumes nothing.
-use mathlib.Core.Path.{_≡_, refl, sym, ap, _∙_, subst}
-use mathlib.Core.Bool.{true, _&&_}
+use mathlib.Core.Path.{_≡_, refl, ap, _∙_}
+use mathlib.Core.Bool.{true}
 use mathlib.Core.List.{List, [], _∷_}
 use Prim.Native.Nat.{ℕ}
-use Rattle.model.specs.declared.Value.{Value}
-use Rattle.model.specs.declared.Value.the-variants.{U8}
 use Rattle.model.specs.declared.Parameter.{Parameter}
 use Rattle.model.specs.declared.Group.{Group}
 use Rattle.model.specs.declared.Change.{Change}
 use Rattle.model.specs.declared.Change.the-variants.{Keep, Write, Save, TakeOut, Load, SavePending}
 use Rattle.model.specs.declared.Settings.{Settings}
 use Rattle.model.specs.declared.State.{State}
-use Rattle.model.specs.Settings.{row, same, has, inForce, Now, stays, becomes}
-use Rattle.model.specs.Validity.{validityOf, unmarks, changes}
+use Rattle.model.specs.Settings.{row, has, inForce, Now}
 use Rattle.model.specs.Store.{recordN, recordOf, soundN, okN, ok, Saved, read, saved, readdressed}
 use Rattle.model.specs.Changes.{effect, applied, recordsOf, stored}
 use Rattle.model.specs.Parts.{idOf}
 use Rattle.model.specs.History.{activeId, firstHeld, firstHeldId, heldId, value, held}
 use Rattle.model.specs.Rules.{rules}
-use Rattle.laws.proofs.Tests.{cond-case, cond-ap, and-l, and-r, and-both, within-is}
+use Rattle.laws.proofs.Tests.{cond-case, cond-ap, and-both, within-is}
 use Rattle.laws.proofs.Image.{read-ok}
-use Rattle.laws.proofs.Parameters.{same-eq, Fits, AllFit, zero-fine, after, KindNow, altered-is}
+use Rattle.laws.proofs.Parameters.{Typed, Fits, AllFit, zero-fine, after}
+use Rattle.laws.proofs.Effects.{Brings, brings-map, new, new-is, applied-new}
 use Rattle.laws.proofs.Saving.{record-ok}
 use Rattle.laws.proofs.Loading.{FitsHeld, loaded-settled, loaded-fits, held-record, built-held, built-id, renewed-held, renewed-id}
 use Rattle.laws.proofs.Allowed.{Allowed, id-ok, pending-ok, pending-bit-ok, sound-ok}
@@ -44,26 +42,6 @@ idAfter (TakeOut gs) id = id
 idAfter (Load gs new) id = new
 idAfter SavePending id = id
 
-abbrev FitsNow : Parameter → Now → Type 0
-FitsNow q stays = Unit {0}
-FitsNow q (becomes v) = Fits q v
-
-kind-now : (q : Parameter) (n : Now) → FitsNow q n → KindNow q n
-kind-now q stays h = tt
-kind-now q (becomes v) h = h .kind
-
-after-fits : (q : Parameter) (n : Now) (v : Value) → FitsNow q n → Fits q v → Fits q (after n v)
-after-fits q stays v h k = k
-after-fits q (becomes w) v h k = h
-
--- 0 fits a validity byte
-zero-fits : (q : Parameter) (g : Group) → same q (validityOf g) ≡ true → Fits q (U8 0)
-zero-fits q g e = subst (λ (p : Parameter). Fits p (U8 0)) (sym (same-eq q (validityOf g) e)) (zero-fine g .fits)
-
-unmarks-validity : (p q : Parameter) → unmarks p q ≡ true → same q (validityOf (row p .group)) ≡ true
-unfolding unmarks
-unmarks-validity p q h = and-l _ _ h
-
 pub empty-ok : (g : Group) → ok g [] ≡ true
 unfolding ok
 empty-ok g = refl
@@ -73,21 +51,13 @@ unfolding okN soundN
 pair-ok s r = and-both _ _ (pending-ok s r) (pending-bit-ok s r)
 
 module _ (sv : Saved) (s : State) (st : List ℕ) (ds : List Change) (h : Agrees sv (s .settings) (idOf s) st ds) where
-  effect-fits : (c : Change) → Allowed c s → (q : Parameter) → FitsNow q (effect c (s .settings) (read st) q)
-  unfolding effect
-  effect-fits Keep a q = tt
-  effect-fits (Write p v) a q =
-      cond-case (FitsNow q) (same q p) (λ e. subst (λ (x : Parameter). Fits x v) (sym (same-eq q p e)) (a .fine .fits))
-      (λ _. cond-case (FitsNow q) (unmarks p q && changes p v (inForce (s .settings)))
-      (λ e. zero-fits q (row p .group) (unmarks-validity p q (and-l _ (changes p v (inForce (s .settings))) e))) (λ _. tt))
-  effect-fits (Save gs) a q = tt
-  effect-fits (TakeOut gs) a q =
-      cond-case (FitsNow q) (has gs (row q .group) && same q (validityOf (row q .group)))
-      (λ e. zero-fits q (row q .group) (and-r (has gs (row q .group)) _ e)) (λ _. tt)
-  effect-fits (Load gs id) a q =
-      let i = within-is 1 127 id (a .0) in
-      cond-case (FitsNow q) (has gs (row q .group)) (λ _. loaded-fits q id (read st) (i .0) (i .1) (h .fits-held q)) (λ _. tt)
-  effect-fits SavePending a q = tt
+  brings-fit : (c : Change) → Allowed c s → Brings Fits (read st) c
+  brings-fit Keep a = tt
+  brings-fit (Write p v) a = a .fine .fits
+  brings-fit (Save gs) a = tt
+  brings-fit (TakeOut gs) a = tt
+  brings-fit (Load gs id) a = let i = within-is 1 127 id (a .0) in λ q. loaded-fits q id (read st) (i .0) (i .1) (h .fits-held q)
+  brings-fit SavePending a = tt
 
   -- what a change does to a parameter, and what its deed says of it
   effect-value : (c : Change) → Allowed c s → (q : Parameter) → after (effect c (s .settings) (read st) q) (value sv q ds) ≡ value sv q (c ∷ ds)
@@ -101,15 +71,14 @@ module _ (sv : Saved) (s : State) (st : List ℕ) (ds : List Change) (h : Agrees
       simp (loaded-settled q id (read st) (i .0) (i .1), h .helds q, h .held-id, cond-ap (λ (n : Now). after n (value sv q ds)))
   effect-value SavePending a q = refl
 
-  applied-is : (c : Change) → Allowed c s → (q : Parameter) → inForce (applied c (s .settings) (read st)) q ≡ after (effect c (s .settings) (read st) q) (inForce (s .settings) q)
-  unfolding applied
-  applied-is c a q = altered-is (effect c (s .settings) (read st)) (s .settings) (λ p. kind-now p (effect c (s .settings) (read st) p) (effect-fits c a p)) q
+  applied-is : (c : Change) → Allowed c s → (q : Parameter) → inForce (applied c (s .settings) (read st)) q ≡ new c (s .settings) (read st) q
+  applied-is c a q = applied-new c (s .settings) (read st) (brings-map Fits Typed (λ p v f. f .kind) (read st) c (brings-fit c a)) q
 
   values-after : (c : Change) → Allowed c s → (q : Parameter) → inForce (applied c (s .settings) (read st)) q ≡ value sv q (c ∷ ds)
   values-after c a q = applied-is c a q ∙ ap (after (effect c (s .settings) (read st) q)) (h .values q) ∙ effect-value c a q
 
-  fits-after : (c : Change) → Allowed c s → (q : Parameter) → Fits q (inForce (applied c (s .settings) (read st)) q)
-  fits-after c a q = rw (applied-is c a q) (after-fits q (effect c (s .settings) (read st) q) (inForce (s .settings) q) (effect-fits c a q) (h .fits q))
+  fits-after : (c : Change) → Allowed c s → AllFit (inForce (applied c (s .settings) (read st)))
+  fits-after c a q = rw (applied-is c a q) (new-is Fits (λ g. zero-fine g .fits) (s .settings) (read st) c (brings-fit c a) (h .fits) q)
 
   id-after : (c : Change) → idAfter c (idOf s) ≡ activeId (c ∷ ds)
   unfolding activeId

@@ -173,7 +173,7 @@ due-valid s r d g = go g
     on = search (and-l, and-r)
 
     obeyed : startObeyed (s .settings) ≡ true
-    obeyed = implies (isOperational (s .core)) _ (search (and-l, and-r)) (start-ok s r)
+    obeyed = implies (isOperational (s .core)) _ (and-l (isOperational (s .core)) _ d) (start-ok s r)
 
     honestly : (h : Group) → honest h (inForce (s .settings)) ≡ true
     honestly h = and-r (inRanges (rows h) (inForce (s .settings))) (honest h (inForce (s .settings))) (sound-ok s r h)

@@ -86,9 +86,13 @@ in-rows p = by-table (λ (q : Parameter). among (rows (row q .group)) q) refl p
 
 -- ---- what may stand in a parameter
 
--- a value of its type, which that type holds
+-- a value of its type
+abbrev pub Typed : Parameter → Value → Type 0
+Typed p v = kindOf v ≡ row p .kind
+
+-- which that type holds
 pub record Fits (p : Parameter) (v : Value) : Type 0 where
-  pub kind : kindOf v ≡ row p .kind
+  pub kind : Typed p v
   pub holds : Holds v
 
 -- and which is in its range
@@ -101,10 +105,13 @@ abbrev pub AllFit : (Parameter → Value) → Type 0
 AllFit f = (q : Parameter) → Fits q (f q)
 
 abbrev pub AllTyped : (Parameter → Value) → Type 0
-AllTyped f = (q : Parameter) → kindOf (f q) ≡ row q .kind
+AllTyped f = (q : Parameter) → Typed q (f q)
 
 pub all-typed : (f : Parameter → Value) → AllFit f → AllTyped f
 all-typed f h q = h q .kind
+
+fine : {p : Parameter} {v : Value} → Typed p v → Holds v → isInside (judge (row p .range) v) ≡ true → Fine p v
+fine k h i = record { fits = record { kind = k; holds = h }; inside = i }
 
 -- each of some rows in range is in range
 pub range-at : (ps : List Parameter) (f : Parameter → Value) (p : Parameter) → among ps p ≡ true → inRanges ps f ≡ true → isInside (judge (row p .range) (f p)) ≡ true
@@ -127,41 +134,41 @@ ranges-from (p ∷ ps) f h = and-both _ (inRanges ps f) (h p) (ranges-from ps f 
 -- 0 in a validity byte
 pub zero-fine : (g : Group) → Fine (validityOf g) (U8 0)
 unfolding judge
-zero-fine C = record { fits = record { kind = refl; holds = lit< tt }; inside = refl }
-zero-fine A = record { fits = record { kind = refl; holds = lit< tt }; inside = refl }
+zero-fine C = fine refl (lit< tt) refl
+zero-fine A = fine refl (lit< tt) refl
 
 first-fine : (n : ℕ) → 0x101 ≤ n → n ≤ 0x17f → n % 2 ≡ 1 → Fine P1301s5 (U32 n)
 unfolding judge
-first-fine n a b c = record { fits = record { kind = refl; holds = omega arith }; inside = rw (le-leb _ _ a, le-leb _ _ b, c) refl }
+first-fine n a b c = fine refl (omega arith) (rw (le-leb _ _ a, le-leb _ _ b, c) refl)
 
 second-fine : (n : ℕ) → 0x102 ≤ n → n ≤ 0x180 → n % 2 ≡ 0 → Fine P1301s6 (U32 n)
 unfolding judge
-second-fine n a b c = record { fits = record { kind = refl; holds = omega arith }; inside = rw (le-leb _ _ a, le-leb _ _ b, c) refl }
+second-fine n a b c = fine refl (omega arith) (rw (le-leb _ _ a, le-leb _ _ b, c) refl)
 
 -- a default
 pub default-fine : (p : Parameter) (id : ℕ) → 1 ≤ id → id ≤ 127 → Fine p (defaultFor id p)
 unfolding judge judgeReal ofBits firstCob secondCob
-default-fine P1017 id a b = record { fits = record { kind = refl; holds = lit< tt }; inside = refl }
-default-fine P1301s1 id a b = record { fits = record { kind = refl; holds = lit< tt }; inside = refl }
-default-fine P1301s2 id a b = record { fits = record { kind = refl; holds = lit< tt }; inside = refl }
-default-fine P1301s3 id a b = record { fits = record { kind = refl; holds = lit< tt }; inside = refl }
+default-fine P1017 id a b = fine refl (lit< tt) refl
+default-fine P1301s1 id a b = fine refl (lit< tt) refl
+default-fine P1301s2 id a b = fine refl (lit< tt) refl
+default-fine P1301s3 id a b = fine refl (lit< tt) refl
 default-fine P1301s5 id a b =
     cond-case (λ (n : ℕ). Fine P1301s5 (U32 n)) (ltb 64 id) (λ _. first-fine 0x17f (lit≤ tt) (lit≤ tt) refl)
     (λ h. let k = ltb-false 64 id h in first-fine (0xff + 2 * id) (omega arith) (omega arith) (omega arith))
 default-fine P1301s6 id a b =
     cond-case (λ (n : ℕ). Fine P1301s6 (U32 n)) (ltb 64 id) (λ _. second-fine 0x180 (lit≤ tt) (lit≤ tt) refl)
     (λ h. let k = ltb-false 64 id h in second-fine (0x100 + 2 * id) (omega arith) (omega arith) (omega arith))
-default-fine P1800s2 id a b = record { fits = record { kind = refl; holds = lit< tt }; inside = refl }
-default-fine P1800s5 id a b = record { fits = record { kind = refl; holds = lit< tt }; inside = refl }
-default-fine P13FE id a b = record { fits = record { kind = refl; holds = lit< tt }; inside = refl }
-default-fine P13FF id a b = record { fits = record { kind = refl; holds = lit< tt }; inside = refl }
-default-fine P2330 id a b = record { fits = record { kind = refl; holds = lit< tt }; inside = refl }
-default-fine P6121 id a b = record { fits = record { kind = refl; holds = ofBits-fits binary32 0 }; inside = refl }
-default-fine P6123 id a b = record { fits = record { kind = refl; holds = ofBits-fits binary32 0x43200000 }; inside = refl }
-default-fine P6124 id a b = record { fits = record { kind = refl; holds = ofBits-fits binary32 0 }; inside = refl }
-default-fine P6132 id a b = record { fits = record { kind = refl; holds = lit< tt }; inside = refl }
-default-fine P51FE id a b = record { fits = record { kind = refl; holds = lit< tt }; inside = refl }
-default-fine P51FF id a b = record { fits = record { kind = refl; holds = lit< tt }; inside = refl }
+default-fine P1800s2 id a b = fine refl (lit< tt) refl
+default-fine P1800s5 id a b = fine refl (lit< tt) refl
+default-fine P13FE id a b = fine refl (lit< tt) refl
+default-fine P13FF id a b = fine refl (lit< tt) refl
+default-fine P2330 id a b = fine refl (lit< tt) refl
+default-fine P6121 id a b = fine refl (ofBits-fits binary32 0) refl
+default-fine P6123 id a b = fine refl (ofBits-fits binary32 0x43200000) refl
+default-fine P6124 id a b = fine refl (ofBits-fits binary32 0) refl
+default-fine P6132 id a b = fine refl (lit< tt) refl
+default-fine P51FE id a b = fine refl (lit< tt) refl
+default-fine P51FF id a b = fine refl (lit< tt) refl
 
 -- ---- the values in force
 
@@ -194,9 +201,10 @@ abbrev pub after : Now → Value → Value
 after stays v = v
 after (becomes w) v = w
 
-abbrev pub KindNow : Parameter → Now → Type 0
-KindNow p stays = Unit {0}
-KindNow p (becomes v) = kindOf v ≡ row p .kind
+-- P of the new value, where there is one
+abbrev pub Becomes : (Parameter → Value → Type 0) → Parameter → Now → Type 0
+Becomes P p stays = Unit {0}
+Becomes P p (becomes v) = P p v
 
 -- a value without sign is what its number stands for
 abbrev plain : Kind → Bool
@@ -213,7 +221,7 @@ typed-is k (U32 n) e h = subst (λ (x : Kind). typed x n ≡ U32 n) e refl
 typed-is k (Integer32 z) e h = absurd (false≢true (ap plain e ∙ h))
 typed-is k (Real32 x) e h = absurd (false≢true (ap plain e ∙ h))
 
-whole-after : (p : Parameter) (now : Now) (n : ℕ) → plain (row p .kind) ≡ true → KindNow p now → typed (row p .kind) (whole now n) ≡ after now (typed (row p .kind) n)
+whole-after : (p : Parameter) (now : Now) (n : ℕ) → plain (row p .kind) ≡ true → Becomes Typed p now → typed (row p .kind) (whole now n) ≡ after now (typed (row p .kind) n)
 whole-after p stays n e h = refl
 whole-after p (becomes v) n e h = typed-is (row p .kind) v h e
 
@@ -224,11 +232,11 @@ real-is (U32 n) e = cc
 real-is (Integer32 z) e = cc
 real-is (Real32 x) e = refl
 
-float-after : (p : Parameter) (now : Now) (x : Float) → row p .kind ≡ K.Real32 → KindNow p now → Real32 (float now x) ≡ after now (Real32 x)
+float-after : (p : Parameter) (now : Now) (x : Float) → row p .kind ≡ K.Real32 → Becomes Typed p now → Real32 (float now x) ≡ after now (Real32 x)
 float-after p stays x e h = refl
 float-after p (becomes v) x e h = real-is v (h ∙ e)
 
-pub altered-is : (now : Parameter → Now) (k : Settings) → ((p : Parameter) → KindNow p (now p)) → (p : Parameter) → inForce (altered now k) p ≡ after (now p) (inForce k p)
+pub altered-is : (now : Parameter → Now) (k : Settings) → ((p : Parameter) → Becomes Typed p (now p)) → (p : Parameter) → inForce (altered now k) p ≡ after (now p) (inForce k p)
 altered-is now k h P1017 = whole-after P1017 (now P1017) _ refl (h P1017)
 altered-is now k h P1301s1 = whole-after P1301s1 (now P1301s1) _ refl (h P1301s1)
 altered-is now k h P1301s2 = whole-after P1301s2 (now P1301s2) _ refl (h P1301s2)

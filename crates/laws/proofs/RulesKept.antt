@@ -40,7 +40,7 @@ use Rattle.laws.proofs.Tests.{cond-case, and-l, and-r, and-false, impli
 use Rattle.laws.proofs.Parameters.{same-eq, by-table}
 use Rattle.laws.proofs.Loading.{address-ok}
 use Rattle.laws.proofs.Allowed.{Allowed, change-allowed}
-use Rattle.laws.proofs.Sound.{applied-new, sound-after}
+use Rattle.laws.proofs.Sound.{applied-is, sound-after}
 use Rattle.laws.proofs.CoreRules.{CoreOk, core-ok, CountOk, start-ok, sync-ok, zero-sync, heard-core, heard-start, heard-sync, restart-core, restart-nmt, restart-sync, reset-core, reset-start, reset-sync}
 use Rattle.laws.proofs.Count.{flag-right}
 
@@ -131,7 +131,7 @@ module _ (s : State) (st : List ℕ) (r : rules s ≡ true) where
       go true e =
           let f : row p .star ≡ false = rw (← (right-true (row p .star))) (rw e at (a .unlocked)) in
           let same-value : (q : Parameter) → row q .star ≡ true → inForce (applied (Write p x) (s .settings) (read st)) q ≡ inForce (s .settings) q =
-          λ q t. applied-new s st (Write p x) a q ∙ rw (free-stays p q x (s .settings) (read st) f t) refl in
+          λ q t. applied-is s st (Write p x) a q ∙ rw (free-stays p q x (s .settings) (read st) f t) refl in
           rw (start-by (applied (Write p x) (s .settings) (read st)) (s .settings) (same-value P51FE refl) (same-value P1301s1 refl) (same-value P13FE refl)) (start-ok s r)
         where
           right-true : (t : Bool) → t && true ≡ t

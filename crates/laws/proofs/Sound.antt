@@ -13,11 +13,10 @@ use Rattle.model.specs.declared.Group.the-variants.{C, A}
 use Rattle.model.specs.declared.Groups.{Groups}
 use Rattle.model.specs.declared.Change.{Change}
 use Rattle.model.specs.declared.Change.the-variants.{Keep, Write, Save, TakeOut, Load, SavePending}
-use Rattle.model.specs.declared.Settings.{Settings}
 use Rattle.model.specs.declared.State.{State}
 use Rattle.model.specs.Bytes.{byteAt}
 use Rattle.model.specs.Values.{kindOf, numberOf, encoded}
-use Rattle.model.specs.Settings.{row, rows, same, among, has, bytesOf, inForce, Now, stays, becomes, judge, isInside, inRanges}
+use Rattle.model.specs.Settings.{row, rows, same, among, has, bytesOf, inForce, stays, becomes, judge, isInside, inRanges}
 use Rattle.model.specs.Validity.{covered, signatureOf, validityOf, signs, valid, A5h, honest, sound, unmarks, changes}
 use Rattle.model.specs.Store.{field, nodeId, ok, Saved, read, saved, defaultFor, groupFrom, followsId, loaded}
 use Rattle.model.specs.Changes.{unmarked, effect, applied}
@@ -26,7 +25,8 @@ use Rattle.model.specs.Rules.{rules}
 use Rattle.laws.proofs.Tests.{cond-case, and-l, and-r, and-both, and-false, implies, within-is}
 use Rattle.laws.proofs.Values.{typed-kind}
 use Rattle.laws.proofs.Image.{read-ok}
-use Rattle.laws.proofs.Parameters.{same-eq, by-table, in-rows, range-at, ranges-from, zero-fine, default-fine, in-force-kind, after, KindNow, altered-is}
+use Rattle.laws.proofs.Parameters.{Typed, same-eq, by-table, in-rows, range-at, ranges-from, zero-fine, default-fine, in-force-kind, after}
+use Rattle.laws.proofs.Effects.{Brings, brings-map, new, new-is, applied-new}
 use Rattle.laws.proofs.Saving.{ranges-in, sound-by, loaded-record}
 use Rattle.laws.proofs.Loading.{sound-there, sound-fields, factory-part}
 use Rattle.laws.proofs.Allowed.{Allowed, sound-ok}
@@ -80,10 +80,6 @@ same-alike : (v : Value) → Alike v v
 same-alike v = record { number = refl; kind = refl }
 
 -- ---- each change
-
--- the values after a change
-abbrev pub new : Change → Settings → Saved → Parameter → Value
-new c k sv q = after (effect c k sv q) (inForce k q)
 
 mark-honest : (m b : Bool) → m && not b ≡ false → not m || b ≡ true
 mark-honest true true h = refl
@@ -201,51 +197,28 @@ loaded-kind id sv q a b =
 
 -- ---- a change that is allowed leaves the parameters sound
 
-abbrev RightNow : Parameter → Now → Type 0
-RightNow q stays = Unit {0}
-RightNow q (becomes v) = (kindOf v ≡ row q .kind) × (isInside (judge (row q .range) v) ≡ true)
+-- a value of its type, in its range
+abbrev Right : Parameter → Value → Type 0
+Right q v = Typed q v × (isInside (judge (row q .range) v) ≡ true)
 
-zero-right : (q : Parameter) (g : Group) → same q (validityOf g) ≡ true → RightNow q unmarked
-zero-right q g e = subst (λ (p : Parameter). RightNow p unmarked) (sym (same-eq q (validityOf g) e)) (zero-fine g .fits .kind, zero-fine g .inside)
+loaded-right : (id : ℕ) (st : List ℕ) → 1 ≤ id → id ≤ 127 → (q : Parameter) → Right q (loaded id (read st) q)
+unfolding sound
+loaded-right id st a b q =
+    let g = row q .group in (
+      loaded-kind id (read st) q a b,
+      range-at (rows g) (loaded id (read st)) q (in-rows q) (and-l _ (honest g (loaded id (read st))) (loaded-sound g id st a b)),
+    )
 
-unmarks-validity : (p q : Parameter) → unmarks p q ≡ true → same q (validityOf (row p .group)) ≡ true
-unfolding unmarks
-unmarks-validity p q h = and-l _ _ h
+brings-right : (s : State) (st : List ℕ) (c : Change) → Allowed c s → Brings Right (read st) c
+brings-right s st Keep a = tt
+brings-right s st (Write p v) a = (a .fine .fits .kind, a .fine .inside)
+brings-right s st (Save gs) a = tt
+brings-right s st (TakeOut gs) a = tt
+brings-right s st (Load gs id) a = let i = within-is 1 127 id (a .0) in loaded-right id st (i .0) (i .1)
+brings-right s st SavePending a = tt
 
-pub effect-right : (s : State) (st : List ℕ) (c : Change) → Allowed c s → (q : Parameter) → RightNow q (effect c (s .settings) (read st) q)
-unfolding effect
-effect-right s st Keep a q = tt
-effect-right s st (Write p v) a q =
-    cond-case (RightNow q) (same q p) (λ e. subst (λ (x : Parameter). RightNow x (becomes v)) (sym (same-eq q p e)) (a .fine .fits .kind, a .fine .inside))
-    (λ _. cond-case (RightNow q) (unmarks p q && changes p v (inForce (s .settings)))
-    (λ e. zero-right q (row p .group) (unmarks-validity p q (and-l _ (changes p v (inForce (s .settings))) e))) (λ _. tt))
-effect-right s st (Save gs) a q = tt
-effect-right s st (TakeOut gs) a q =
-    cond-case (RightNow q) (has gs (row q .group) && same q (validityOf (row q .group)))
-    (λ e. zero-right q (row q .group) (and-r (has gs (row q .group)) _ e)) (λ _. tt)
-effect-right s st (Load gs id) a q =
-    let i = within-is 1 127 id (a .0) in
-    cond-case (RightNow q) (has gs (row q .group))
-    (λ _. (
-      loaded-kind id (read st) q (i .0) (i .1),
-      range-at (rows (row q .group)) (loaded id (read st)) q (in-rows q)
-          (unfold sound in and-l _ (honest (row q .group) (loaded id (read st))) (loaded-sound (row q .group) id st (i .0) (i .1))),
-    ))
-    (λ _. tt)
-effect-right s st SavePending a q = tt
-
-kind-now : (q : Parameter) (n : Now) → RightNow q n → KindNow q n
-kind-now q stays h = tt
-kind-now q (becomes v) h = h .0
-
-after-inside : (q : Parameter) (n : Now) (v : Value) → RightNow q n → isInside (judge (row q .range) v) ≡ true → isInside (judge (row q .range) (after n v)) ≡ true
-after-inside q stays v h k = k
-after-inside q (becomes w) v h k = h .1
-
-pub applied-new : (s : State) (st : List ℕ) (c : Change) → Allowed c s → (q : Parameter) → inForce (applied c (s .settings) (read st)) q ≡ new c (s .settings) (read st) q
-unfolding applied
-applied-new s st c a q =
-    altered-is (effect c (s .settings) (read st)) (s .settings) (λ p. kind-now p (effect c (s .settings) (read st) p) (effect-right s st c a p)) q
+pub applied-is : (s : State) (st : List ℕ) (c : Change) → Allowed c s → (q : Parameter) → inForce (applied c (s .settings) (read st)) q ≡ new c (s .settings) (read st) q
+applied-is s st c a q = applied-new c (s .settings) (read st) (brings-map Right Typed (λ p v h. h .0) (read st) c (brings-right s st c a)) q
 
 module _ (s : State) (st : List ℕ) (r : rules s ≡ true) where
   old-inside : (q : Parameter) → isInside (judge (row q .range) (inForce (s .settings) q)) ≡ true
@@ -276,11 +249,15 @@ module _ (s : State) (st : List ℕ) (r : rules s ≡ true) where
       unfold sound in and-r (inRanges (rows g) (new (Load gs id) (s .settings) (read st))) _ (load-sound gs id (a .0) g)
   new-honest SavePending a g = unfold effect in old-honest g
 
+  new-right : (c : Change) → Allowed c s → (q : Parameter) → Right q (new c (s .settings) (read st) q)
+  new-right c a q =
+      new-is Right (λ g. (zero-fine g .fits .kind, zero-fine g .inside)) (s .settings) (read st) c (brings-right s st c a)
+      (λ p. (in-force-kind (s .settings) p, old-inside p)) q
+
   -- THE THEOREM of this file
   pub sound-after : (c : Change) → Allowed c s → (g : Group) → sound g (inForce (applied c (s .settings) (read st))) ≡ true
   unfolding sound
   sound-after c a g =
-      rw (fun-ext (applied-new s st c a))
+      rw (fun-ext (applied-is s st c a))
       (and-both (inRanges (rows g) (new c (s .settings) (read st))) (honest g (new c (s .settings) (read st)))
-      (ranges-from (rows g) (new c (s .settings) (read st)) (λ q. after-inside q (effect c (s .settings) (read st) q) (inForce (s .settings) q) (effect-right s st c a q) (old-inside q)))
-      (new-honest c a g))
+      (ranges-from (rows g) (new c (s .settings) (read st)) (λ q. new-right c a q .1)) (new-honest c a g))
