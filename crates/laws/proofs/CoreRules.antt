@@ -211,7 +211,8 @@ progress-ok (AskIdentity n) s h = refl
 progress-ok AskNodeId s h = refl
 progress-ok OtherLss s h = refl
 
-pending-kept : (r : LssRequest) (s : State) → CoreOk (s .core) → IdsOk (s .core .active) (pendingAfter r s) × BitsOk (s .core .active) (pendingAfter r s)
+pending-kept : (r : LssRequest) (s : State) → CoreOk (s .core)
+    → IdsOk (s .core .active) (pendingAfter r s) × BitsOk (s .core .active) (pendingAfter r s)
 unfolding pendingAfter
 pending-kept (Select n number) s h = (h .ids, h .bits)
 pending-kept (SwitchMode mode) s h = (h .ids, h .bits)
@@ -284,7 +285,8 @@ on-syncs kind =
     ((λ _ e. cc), ((λ t e. t), ((λ _ e. cc), ((λ _ e. cc), tt))))
     (λ e. cc)
 
-counted-ok : (t : Transmission) (kind : ℕ) (d : Sending) → transmission kind ≡ t → SyncOk kind (d .syncs) → SyncOk kind (syncCounted t kind d .syncs)
+counted-ok : (t : Transmission) (kind : ℕ) (d : Sending) → transmission kind ≡ t → SyncOk kind (d .syncs)
+    → SyncOk kind (syncCounted t kind d .syncs)
 counted-ok OnSample kind d e h = h
 counted-ok OnSyncs kind d e h =
     cond-case (λ (x : Sending). SyncOk kind (x .syncs)) (leb kind (d .syncs + 1)) (λ _. zero-sync kind)
@@ -293,7 +295,8 @@ counted-ok OnRemote kind d e h = h
 counted-ok Timed kind d e h = h
 counted-ok Never kind d e h = h
 
-pub heard-sync : (v : Service) (s : State) → CountOk (communication s .tpdo .kind) (s .core) → CountOk (communication s .tpdo .kind) (heard v s)
+pub heard-sync : (v : Service) (s : State) → CountOk (communication s .tpdo .kind) (s .core)
+    → CountOk (communication s .tpdo .kind) (heard v s)
 unfolding heard ticked commanded obeyed stop synced remoteAnswered
 heard-sync Nothing s h = h
 heard-sync Tick s h = h
@@ -341,7 +344,8 @@ unfolding cleared
 cleared-core gs id st c a h =
     record { ids = readied-ok gs id st c a h .0; bits = readied-ok gs id st c a h .1; nmt = refl; lss = refl; upload = refl }
 
-pub reset-core : (gs : Groups) (id : ℕ) (st : List ℕ) (k : Settings) (c : Core) → nodeId id ≡ true → CoreOk c → CoreOk (reset gs id (read st) k c)
+pub reset-core : (gs : Groups) (id : ℕ) (st : List ℕ) (k : Settings) (c : Core) → nodeId id ≡ true → CoreOk c
+    → CoreOk (reset gs id (read st) k c)
 unfolding reset autoStart
 reset-core gs id st k c a h =
     let d = cleared-core gs id st c a h in

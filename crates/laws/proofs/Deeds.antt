@@ -87,7 +87,8 @@ reset-id gs id sv k c h =
     (λ _. ap (λ (a : Address). a .id) (start-active k (cleared (readied gs id sv c))) ∙ readied-id gs id sv c h)
     (λ _. readied-id gs id sv c h)
 
-pub core-id : (c : Change) (v : Service) (s : State) (sv : Saved) (k : Settings) → Allowed c s → coreAfter c v s sv k .active .id ≡ idAfter c (idOf s)
+pub core-id : (c : Change) (v : Service) (s : State) (sv : Saved) (k : Settings) → Allowed c s
+    → coreAfter c v s sv k .active .id ≡ idAfter c (idOf s)
 unfolding coreAfter
 core-id Keep v s sv k a = ap (λ (x : Address). x .id) (heard-active v s)
 core-id (Write p x) v s sv k a = ap (λ (y : Address). y .id) (restart-active (timerOf p) (heard v s) ∙ heard-active v s)
@@ -160,7 +161,8 @@ sdo-deed s more q R.ClientAbort = keep-first _ more (λ f. refl)
 sdo-deed s more q R.DownloadSegment = refl
 sdo-deed s more q (R.Unknown index sub) = refl
 
-plain-lss : (s : State) (more : List Frame) (r : LssRequest) → ((f : Frame) → lssDeed r f ≡ Keep) → byFirst (lssDeed r) (lssReply r s ++ more) ≡ Keep
+plain-lss : (s : State) (more : List Frame) (r : LssRequest) → ((f : Frame) → lssDeed r f ≡ Keep)
+    → byFirst (lssDeed r) (lssReply r s ++ more) ≡ Keep
 plain-lss s more r h = keep-first (lssDeed r) (lssReply r s ++ more) h
 
 lss-deed : (s : State) (more : List Frame) → Quiet more → (r : LssRequest)
@@ -172,7 +174,8 @@ lss-deed s more q (SetNodeId id) = plain-lss s more (SetNodeId id) (λ f. refl)
 lss-deed s more q (SetBitIndex table bit) = plain-lss s more (SetBitIndex table bit) (λ f. refl)
 lss-deed s more q StorePending = go (inConfiguration s) refl
   where
-    go : (b : Bool) → inConfiguration s ≡ b → byFirst (lssDeed StorePending) (lssReply StorePending s ++ (booted (lssChange StorePending s) ++ more)) ≡ lssChange StorePending s
+    go : (b : Bool) → inConfiguration s ≡ b
+        → byFirst (lssDeed StorePending) (lssReply StorePending s ++ (booted (lssChange StorePending s) ++ more)) ≡ lssChange StorePending s
     go true e = rw e refl
     go false e = rw e (quiet-lss StorePending more q)
 lss-deed s more q (AskIdentity n) = plain-lss s more (AskIdentity n) (λ f. refl)
@@ -180,7 +183,11 @@ lss-deed s more q AskNodeId = plain-lss s more AskNodeId (λ f. refl)
 lss-deed s more q OtherLss = plain-lss s more OtherLss (λ f. refl)
 
 module _ (s : State) (st : List ℕ) (more : List Frame) (q : Quiet more) where
-  deed-change : (v : Service) → serviceDeed (idOf s) v (reply v s ++ (booted (changeOf v s (read st)) ++ more)) ≡ changeOf v s (read st)
+  -- the deed of all that is sent is the change
+  abbrev Tells : Service → Type 0
+  Tells v = serviceDeed (idOf s) v (reply v s ++ (booted (changeOf v s (read st)) ++ more)) ≡ changeOf v s (read st)
+
+  deed-change : (v : Service) → Tells v
   unfolding changeOf reply serviceDeed resetDeed nmtChange resetAsked firstHit
   deed-change Nothing = refl
   deed-change Tick = refl
@@ -188,7 +195,7 @@ module _ (s : State) (st : List ℕ) (more : List Frame) (q : Quiet more) where
   deed-change (Nmt command to) = go (isFor to (idOf s)) (eqb command resetNodeCommand) (eqb command resetCommunicationCommand) refl refl refl
     where
       go : (b x y : Bool) → isFor to (idOf s) ≡ b → eqb command resetNodeCommand ≡ x → eqb command resetCommunicationCommand ≡ y
-          → serviceDeed (idOf s) (Nmt command to) (reply (Nmt command to) s ++ (booted (changeOf (Nmt command to) s (read st)) ++ more)) ≡ changeOf (Nmt command to) s (read st)
+          → Tells (Nmt command to)
       go false x y e1 e2 e3 = rw e1 refl
       go true true y e1 e2 e3 = simp (e1, e2, add-sub-cancel-left)
       go true false true e1 e2 e3 = simp (e1, e2, e3, add-sub-cancel-left)
@@ -197,14 +204,14 @@ module _ (s : State) (st : List ℕ) (more : List Frame) (q : Quiet more) where
   deed-change (Remote to) = refl
   deed-change (Sdo to r) = go (serves to s) refl
     where
-      go : (b : Bool) → serves to s ≡ b → serviceDeed (idOf s) (Sdo to r) (reply (Sdo to r) s ++ (booted (changeOf (Sdo to r) s (read st)) ++ more)) ≡ changeOf (Sdo to r) s (read st)
+      go : (b : Bool) → serves to s ≡ b → Tells (Sdo to r)
       go true e =
           rw (e, eqb-true to (idOf s) (and-l (eqb to (idOf s)) (not (isStopped (s .core))) e))
           (sdo-deed s more q r)
       go false e = rw e (quiet-sdo to r more q)
   deed-change (Lss r) = go (isPreOperational (s .core)) refl
     where
-      go : (b : Bool) → isPreOperational (s .core) ≡ b → serviceDeed (idOf s) (Lss r) (reply (Lss r) s ++ (booted (changeOf (Lss r) s (read st)) ++ more)) ≡ changeOf (Lss r) s (read st)
+      go : (b : Bool) → isPreOperational (s .core) ≡ b → Tells (Lss r)
       go true e = rw e (lss-deed s more q r)
       go false e = rw e (quiet-lss r more q)
 
@@ -212,7 +219,8 @@ module _ (s : State) (st : List ℕ) (more : List Frame) (q : Quiet more) where
 pub served-id : (c : Change) (v : Service) (s : State) (st : List ℕ) → Allowed c s → idOf (changed c v s (read st)) ≡ idAfter c (idOf s)
 served-id c v s st a = core-id c v s (read st) (applied c (s .settings) (read st)) a
 
-pub served-id-most : (c : Change) (v : Service) (s : State) (st : List ℕ) → Allowed c s → rules s ≡ true → idOf (changed c v s (read st)) ≤ 127
+pub served-id-most : (c : Change) (v : Service) (s : State) (st : List ℕ) → Allowed c s → rules s ≡ true
+    → idOf (changed c v s (read st)) ≤ 127
 served-id-most c v s st a r = rw (served-id c v s st a) (id-most c s a (within-is 1 127 (idOf s) (id-ok s r) .1))
 
 -- THE THEOREM of this file

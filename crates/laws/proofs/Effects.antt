@@ -25,7 +25,8 @@ Brings P sv (TakeOut gs) = Unit {0}
 Brings P sv (Load gs id) = (q : Parameter) → P q (loaded id sv q)
 Brings P sv SavePending = Unit {0}
 
-pub brings-map : (P Q : Parameter → Value → Type 0) → ((q : Parameter) (v : Value) → P q v → Q q v) → (sv : Saved) (c : Change) → Brings P sv c → Brings Q sv c
+pub brings-map : (P Q : Parameter → Value → Type 0) → ((q : Parameter) (v : Value) → P q v → Q q v) → (sv : Saved) (c : Change)
+    → Brings P sv c → Brings Q sv c
 brings-map P Q f sv Keep h = tt
 brings-map P Q f sv (Write p v) h = f p v h
 brings-map P Q f sv (Save gs) h = tt

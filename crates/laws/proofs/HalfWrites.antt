@@ -5,6 +5,7 @@ use mathlib.Core.Bool.{Bool, true, false, _&&_}
 use mathlib.Core.List.{List, [], _∷_, _++_}
 use mathlib.Core.Logic.{_⊎_, inl, inr, ⊎-elim}
 use Prim.Native.Nat.{ℕ}
+use lib.Dec.{eqb}
 use lib.ListN.{length}
 use borrow.Author.Tests.{ne-eqb}
 use Rattle.model.specs.declared.Change.{Change}
@@ -31,13 +32,16 @@ use Rattle.model.specs.Nmt.{isFor, nmtChange, resetAsked, bootUp}
 use Rattle.model.specs.Sdo.{acknowledged, writeReply, checkedWrite, changeIn, sdoChange, sdoReply, serves}
 use Rattle.model.specs.Lss.{inConfiguration, answered, lssChange, lssReply}
 use Rattle.model.specs.Step.{done, refusal, changeOf, reply, booted, changed, reports, served, step, powerOn, refused, eventAnswer}
+use Rattle.model.specs.Run.{Call, World, continued}
 use Rattle.laws.proofs.Tests.{cond-case, hit-case}
+use Rattle.laws.proofs.Pairs.{newest}
 
 -- ---- what an accepting reply is
 
 -- these frames begin with the reply that accepts the request v
 pub data Accepting (v : Service) (s : State) : List Frame → Type 0 where
-  written : (to index sub size d : ℕ) {fs : List Frame} → v ≡ Sdo to (R.Download index sub size d) → Accepting v s (acknowledged index sub s ∷ fs)
+  written : (to index sub size d : ℕ) {fs : List Frame} → v ≡ Sdo to (R.Download index sub size d)
+      → Accepting v s (acknowledged index sub s ∷ fs)
   reset : (command to id : ℕ) {fs : List Frame} → v ≡ Nmt command to → Accepting v s (bootUp id ∷ fs)
   pending : {fs : List Frame} → v ≡ Lss StorePending → Accepting v s (answered (lssStore ∷ 0 ∷ []) ∷ fs)
 
@@ -74,7 +78,10 @@ lss-told (AskIdentity n) s more = inl refl
 lss-told AskNodeId s more = inl refl
 lss-told OtherLss s more = inl refl
 
-change-told : (v : Service) (s : State) (sv : Saved) (more : List Frame) → Told v s (changeOf v s sv) (reply v s ++ (booted (changeOf v s sv) ++ more))
+abbrev ToldBy : Service → State → Saved → List Frame → Type 0
+ToldBy v s sv more = Told v s (changeOf v s sv) (reply v s ++ (booted (changeOf v s sv) ++ more))
+
+change-told : (v : Service) (s : State) (sv : Saved) (more : List Frame) → ToldBy v s sv more
 unfolding changeOf reply nmtChange resetAsked
 change-told Nothing s sv more = inl refl
 change-told Tick s sv more = inl refl
@@ -87,12 +94,12 @@ change-told Sync s sv more = inl refl
 change-told (Remote to) s sv more = inl refl
 change-told (Sdo to r) s sv more = go (serves to s) refl
   where
-    go : (b : Bool) → serves to s ≡ b → Told (Sdo to r) s (changeOf (Sdo to r) s sv) (reply (Sdo to r) s ++ (booted (changeOf (Sdo to r) s sv) ++ more))
+    go : (b : Bool) → serves to s ≡ b → ToldBy (Sdo to r) s sv more
     go true e = rw e (sdo-told to r s (booted (sdoChange r s) ++ more))
     go false e = rw e (inl refl)
 change-told (Lss r) s sv more = go (isPreOperational (s .core)) refl
   where
-    go : (b : Bool) → isPreOperational (s .core) ≡ b → Told (Lss r) s (changeOf (Lss r) s sv) (reply (Lss r) s ++ (booted (changeOf (Lss r) s sv) ++ more))
+    go : (b : Bool) → isPreOperational (s .core) ≡ b → ToldBy (Lss r) s sv more
     go true e = rw e (lss-told r s (booted (lssChange r s) ++ more))
     go false e = rw e (inl refl)
 
@@ -120,7 +127,21 @@ half-writes e s st =
     ⊎-elim (λ k. inl (record { settings = kept-settings c v s st k; store = kept-store c v s st k })) (λ a. inr a)
     (change-told v s (read st) (when (reports v && emcyDue t) (emcyFrame t)))
 
--- and a refused call hands back state, output and store as they were, with count 0
+-- the same of a call in a run, with what its line of the log shows: a refused one changes nothing
+pub record Same (w x : World) : Type 0 where
+  pub settings : x .state .settings ≡ w .state .settings
+  pub store : x .store ≡ w .store
+
+pub half-writes-in-run : (c : Call) (w : World)
+    → Same w (continued c w) ⊎ Accepting (service (c .event)) (w .state) (newest (continued c w .log))
+unfolding continued
+half-writes-in-run c w =
+    cond-case (λ (x : World). Same w x ⊎ Accepting (service (c .event)) (w .state) (newest (x .log)))
+    (eqb (refusal (c .event) (w .state) (c .room) (length (w .store))) done)
+    (λ _. ⊎-elim (λ h. inl (record { settings = h .settings; store = h .store })) (λ a. inr a) (half-writes (c .event) (w .state) (w .store)))
+    (λ _. inl (record { settings = refl; store = refl }))
+
+-- and a refused call of `event` hands back state, output and store as they were, with count 0
 pub refused-nothing : (e : List ℕ) (s : State) (out st : List ℕ) → (refusal e s (length out) (length st) ≡ done → ⊥)
     → eventAnswer e s out st ≡ refused (refusal e s (length out) (length st)) s out st
 unfolding eventAnswer

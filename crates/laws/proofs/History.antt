@@ -97,7 +97,8 @@ unborn-agrees i st b =
       fits-held = first-held st b;
     }
 
-pub told-begun : (i : Identity) (room : ℕ) (st : List ℕ) → powerOnRefusal room (length st) ≡ done → Bytes st → Told (read st) (begun i room st)
+pub told-begun : (i : Identity) (room : ℕ) (st : List ℕ) → powerOnRefusal room (length st) ≡ done → Bytes st
+    → Told (read st) (begun i room st)
 unfolding begun powerOn deeds deed served reply
 told-begun i room st e b =
     let id = addressFrom (read st) .id in
@@ -107,27 +108,30 @@ told-begun i room st e b =
 
 -- ---- THE THEOREM
 
--- each parameter is what the log says
-pub history : (i : Identity) (room : ℕ) (st : List ℕ) (cs : List Call) → powerOnRefusal room (length st) ≡ done → Bytes st → (q : Parameter)
-    → inForce (run cs (begun i room st) .state .settings) q ≡ value (read st) q (deeds (run cs (begun i room st) .log))
-history i room st cs e b q = told-run (read st) cs (begun i room st) (told-begun i room st e b) .values q
+-- the world after a power-on with this room for output and this store, and then these calls
+abbrev pub ran : Identity → ℕ → List ℕ → List Call → World
+ran i room st cs = run cs (begun i room st)
 
--- so all the settings are
-pub history-whole : (i : Identity) (room : ℕ) (st : List ℕ) (cs : List Call) → powerOnRefusal room (length st) ≡ done → Bytes st
-    → run cs (begun i room st) .state .settings ≡ made (λ (q : Parameter). value (read st) q (deeds (run cs (begun i room st) .log)))
-history-whole i room st cs e b = ap made (fun-ext (history i room st cs e b))
+module _ (i : Identity) (room : ℕ) (st : List ℕ) (cs : List Call) (accepted : powerOnRefusal room (length st) ≡ done) (bytes : Bytes st) where
+  all-told : Told (read st) (ran i room st cs)
+  all-told = told-run (read st) cs (begun i room st) (told-begun i room st accepted bytes)
 
--- and the store holds for each parameter what the log says
-pub ledger : (i : Identity) (room : ℕ) (st : List ℕ) (cs : List Call) → powerOnRefusal room (length st) ≡ done → Bytes st → (q : Parameter)
-    → firstHeld (read (run cs (begun i room st) .store)) q ≡ held (read st) q (deeds (run cs (begun i room st) .log))
-ledger i room st cs e b q = told-run (read st) cs (begun i room st) (told-begun i room st e b) .helds q
+  -- each parameter is what the log says
+  pub history : (q : Parameter) → inForce (ran i room st cs .state .settings) q ≡ value (read st) q (deeds (ran i room st cs .log))
+  history q = all-told .values q
 
--- the ID that C is held with, too
-pub ledger-id : (i : Identity) (room : ℕ) (st : List ℕ) (cs : List Call) → powerOnRefusal room (length st) ≡ done → Bytes st
-    → firstHeldId (read (run cs (begun i room st) .store)) ≡ heldId (read st) (deeds (run cs (begun i room st) .log))
-ledger-id i room st cs e b = told-run (read st) cs (begun i room st) (told-begun i room st e b) .held-id
+  -- so all the settings are
+  pub history-whole : ran i room st cs .state .settings ≡ made (λ (q : Parameter). value (read st) q (deeds (ran i room st cs .log)))
+  history-whole = ap made (fun-ext history)
 
--- and the active ID is that of the last boot-up
-pub history-id : (i : Identity) (room : ℕ) (st : List ℕ) (cs : List Call) → powerOnRefusal room (length st) ≡ done → Bytes st
-    → idOf (run cs (begun i room st) .state) ≡ activeId (deeds (run cs (begun i room st) .log))
-history-id i room st cs e b = told-run (read st) cs (begun i room st) (told-begun i room st e b) .id-is
+  -- the active ID is that of the last boot-up
+  pub history-id : idOf (ran i room st cs .state) ≡ activeId (deeds (ran i room st cs .log))
+  history-id = all-told .id-is
+
+  -- the store holds for each parameter what the log says
+  pub ledger : (q : Parameter) → firstHeld (read (ran i room st cs .store)) q ≡ held (read st) q (deeds (ran i room st cs .log))
+  ledger q = all-told .helds q
+
+  -- and so for the ID that C was saved with
+  pub ledger-id : firstHeldId (read (ran i room st cs .store)) ≡ heldId (read st) (deeds (ran i room st cs .log))
+  ledger-id = all-told .held-id

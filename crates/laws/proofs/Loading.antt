@@ -72,7 +72,8 @@ default-fits : (id : ℕ) → 1 ≤ id → id ≤ 127 → AllFit (defaultFor id)
 default-fits id a b q = default-fine q id a b .fits
 
 -- a group's part of the factory block is the record of the defaults
-pub factory-part : (g : Group) (id : ℕ) → 1 ≤ id → id ≤ 127 → part (factoryPlace g) (sizeOfRecord g) (factory id) ≡ recordOf g id (defaultFor id)
+pub factory-part : (g : Group) (id : ℕ) → 1 ≤ id → id ≤ 127
+    → part (factoryPlace g) (sizeOfRecord g) (factory id) ≡ recordOf g id (defaultFor id)
 unfolding factory
 factory-part C id a b =
     part-mid [] (recordOf C id (defaultFor id)) (recordOf A id (defaultFor id)) 0 21 refl (length-record C id (defaultFor id) (all-typed _ (default-fits id a b)))
@@ -92,7 +93,8 @@ other-id q sv id x xs e = go (followsId q) refl
     go false f = refl
 
 -- a load gives what is held, else the default, by the COB-ID rule
-pub loaded-settled : (q : Parameter) (id : ℕ) (sv : Saved) → 1 ≤ id → id ≤ 127 → loaded id sv q ≡ settled q id (firstHeld sv q) (firstHeldId sv)
+pub loaded-settled : (q : Parameter) (id : ℕ) (sv : Saved) → 1 ≤ id → id ≤ 127
+    → loaded id sv q ≡ settled q id (firstHeld sv q) (firstHeldId sv)
 unfolding firstHeld settled groupFrom
 loaded-settled q id sv a b = go (saved (row q .group) sv) refl
   where
@@ -134,7 +136,8 @@ module _ (n : List ℕ) (r : Group → List ℕ) (n-ok : okN n ≡ true) (r-ok :
   built-id = ap (heldIn headOf) (built-saved n r n-ok r-ok C)
 
 module _ (gs : Groups) (r : Group → List ℕ) (st : List ℕ) (r-ok : (g : Group) → has gs g ≡ true → ok g (r g) ≡ true) where
-  pub renewed-held : (q : Parameter) → firstHeld (read (renewed gs r (read st))) q ≡ cond (has gs (row q .group)) (heldIn (λ (x : List ℕ). field x q) (r (row q .group))) (firstHeld (read st) q)
+  pub renewed-held : (q : Parameter)
+      → firstHeld (read (renewed gs r (read st))) q ≡ cond (has gs (row q .group)) (heldIn (λ (x : List ℕ). field x q) (r (row q .group))) (firstHeld (read st) q)
   unfolding firstHeld
   renewed-held q =
       ap (heldIn (λ (x : List ℕ). field x q)) (renewed-saved gs r st r-ok (row q .group))
@@ -157,6 +160,7 @@ pub address-ok : (st : List ℕ) → (nodeId (addressFrom (read st) .id) ≡ tru
 unfolding addressFrom soundN
 address-ok st = go (savedN (read st)) (read-n st)
   where
-    go : (r : List ℕ) → okN r ≡ true → (nodeId (byteAt 0 (orElse r (1 ∷ 3 ∷ []))) ≡ true) × (bitIndex (byteAt 1 (orElse r (1 ∷ 3 ∷ []))) ≡ true)
+    go : (r : List ℕ) → okN r ≡ true
+        → (nodeId (byteAt 0 (orElse r (1 ∷ 3 ∷ []))) ≡ true) × (bitIndex (byteAt 1 (orElse r (1 ∷ 3 ∷ []))) ≡ true)
     go [] h = (refl, refl)
     go (x ∷ xs) h = let k = there-n x xs h in (and-l _ (bitIndex (byteAt 1 (x ∷ xs))) k, and-r (nodeId x) _ k)

@@ -60,7 +60,8 @@ module _ (sv : Saved) (s : State) (st : List ℕ) (ds : List Change) (h : Agrees
   brings-fit SavePending a = tt
 
   -- what a change does to a parameter, and what its deed says of it
-  effect-value : (c : Change) → Allowed c s → (q : Parameter) → after (effect c (s .settings) (read st) q) (value sv q ds) ≡ value sv q (c ∷ ds)
+  effect-value : (c : Change) → Allowed c s → (q : Parameter)
+      → after (effect c (s .settings) (read st) q) (value sv q ds) ≡ value sv q (c ∷ ds)
   unfolding effect value
   effect-value Keep a q = refl
   effect-value (Write p v) a q = simp (h .values p, cond-ap (λ (n : Now). after n (value sv q ds)))
@@ -71,7 +72,8 @@ module _ (sv : Saved) (s : State) (st : List ℕ) (ds : List Change) (h : Agrees
       simp (loaded-settled q id (read st) (i .0) (i .1), h .helds q, h .held-id, cond-ap (λ (n : Now). after n (value sv q ds)))
   effect-value SavePending a q = refl
 
-  applied-is : (c : Change) → Allowed c s → (q : Parameter) → inForce (applied c (s .settings) (read st)) q ≡ new c (s .settings) (read st) q
+  applied-is : (c : Change) → Allowed c s → (q : Parameter)
+      → inForce (applied c (s .settings) (read st)) q ≡ new c (s .settings) (read st) q
   applied-is c a q = applied-new c (s .settings) (read st) (brings-map Fits Typed (λ p v f. f .kind) (read st) c (brings-fit c a)) q
 
   values-after : (c : Change) → Allowed c s → (q : Parameter) → inForce (applied c (s .settings) (read st)) q ≡ value sv q (c ∷ ds)
@@ -131,7 +133,8 @@ module _ (sv : Saved) (s : State) (st : List ℕ) (ds : List Change) (h : Agrees
       go SavePending = old
 
   -- THE STEP
-  pub agrees-after : (c : Change) → Allowed c s → Agrees sv (applied c (s .settings) (read st)) (idAfter c (idOf s)) (stored c s st) (c ∷ ds)
+  pub agrees-after : (c : Change) → Allowed c s
+      → Agrees sv (applied c (s .settings) (read st)) (idAfter c (idOf s)) (stored c s st) (c ∷ ds)
   agrees-after c a =
       record {
         values = values-after c a;

@@ -7,7 +7,8 @@ use Rattle.model.specs.declared.Identity.{Identity}
 use Rattle.model.specs.declared.State.{State}
 use Rattle.model.specs.Step.{Answered, eventAnswer, powerOnAnswer}
 
-pub one-answer : (e : List ℕ) (s : State) (out st : List ℕ) (x y : Answered) → x ≡ eventAnswer e s out st → y ≡ eventAnswer e s out st → x ≡ y
+pub one-answer : (e : List ℕ) (s : State) (out st : List ℕ) (x y : Answered) → x ≡ eventAnswer e s out st → y ≡ eventAnswer e s out st
+    → x ≡ y
 one-answer e s out st x y p q = p ∙ sym q
 
 pub one-power-on : (i : Identity) (out st : List ℕ) (x y : Answered) → x ≡ powerOnAnswer i out st → y ≡ powerOnAnswer i out st → x ≡ y

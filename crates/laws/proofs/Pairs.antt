@@ -208,7 +208,8 @@ safe-tick s r =
     safe-append _ _ _ (when-other _ _ _ (heartbeatDue t) (heartbeatFrame t) (above (heartbeats + idOf s) (omega arith)))
     (safe-append _ _ _ (when-other _ _ _ (tpdoDue t) (tpdoFrame t) (tpdo-other s r)) (go (srdoDue t && not (capped t)) refl))
   where
-    go : (b : Bool) → srdoDue (clocked s) && not (capped (clocked s)) ≡ b → Safe Tick (s .settings) (s .core .fv) (when b (srdoFirst (clocked s)) ++ when b (srdoSecond (clocked s)))
+    go : (b : Bool) → srdoDue (clocked s) && not (capped (clocked s)) ≡ b
+        → Safe Tick (s .settings) (s .core .fv) (when b (srdoFirst (clocked s)) ++ when b (srdoSecond (clocked s)))
     go true e =
         let d = and-l (srdoDue (clocked s)) (not (capped (clocked s))) e in
         pair (record {
@@ -224,7 +225,8 @@ safe-tick s r =
 -- ---- an event, with what is in force after it
 
 -- a tick changes neither settings nor FV
-tick-after : (s : State) (st : List ℕ) → rules s ≡ true → Safe Tick (served Keep Tick s st .state .settings) (served Keep Tick s st .state .core .fv) (tickFrames s)
+tick-after : (s : State) (st : List ℕ) → rules s ≡ true
+    → Safe Tick (served Keep Tick s st .state .settings) (served Keep Tick s st .state .core .fv) (tickFrames s)
 unfolding served coreAfter heard ticked applied effect
 tick-after s st r = safe-tick s r
 
@@ -247,7 +249,8 @@ unfolding emcyFrame
 emcy-other v k fv b t h = when-other v k fv b (emcyFrame t) (below (emcys + idOf t) (omega arith))
 
 -- THE THEOREM for one event
-pub step-safe : (e : List ℕ) (s : State) (st : List ℕ) → rules s ≡ true → let o = step e s st in Safe (service e) (o .state .settings) (o .state .core .fv) (o .sent)
+pub step-safe : (e : List ℕ) (s : State) (st : List ℕ) → rules s ≡ true
+    → let o = step e s st in Safe (service e) (o .state .settings) (o .state .core .fv) (o .sent)
 unfolding step
 step-safe e s st r =
     let v = service e in

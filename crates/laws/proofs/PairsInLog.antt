@@ -120,13 +120,15 @@ readied-fv Both id sv c h = refl
 readied-fv OnlyC id sv c h = refl
 readied-fv OnlyA id sv c h = cc
 
-reset-fv : (gs : Groups) (id : ℕ) (sv : Saved) (k : Settings) (c : Core) → has gs C ≡ true → reset gs id sv k c .fv ≡ cond (has gs A) zeroFv (c .fv)
+reset-fv : (gs : Groups) (id : ℕ) (sv : Saved) (k : Settings) (c : Core) → has gs C ≡ true
+    → reset gs id sv k c .fv ≡ cond (has gs A) zeroFv (c .fv)
 unfolding reset autoStart cleared
 reset-fv gs id sv k c h =
     cond-case (λ (d : Core). d .fv ≡ cond (has gs A) zeroFv (c .fv)) (eqb (k .application .autostart) 1)
     (λ _. start-fv k (cleared (readied gs id sv c)) ∙ readied-fv gs id sv c h) (λ _. readied-fv gs id sv c h)
 
-core-fv : (c : Change) (v : Service) (s : State) (sv : Saved) (k : Settings) → Allowed c s → coreAfter c v s sv k .fv ≡ fvAfter c v (s .core .fv)
+core-fv : (c : Change) (v : Service) (s : State) (sv : Saved) (k : Settings) → Allowed c s
+    → coreAfter c v s sv k .fv ≡ fvAfter c v (s .core .fv)
 unfolding coreAfter
 core-fv Keep v s sv k a = heard-fv v s
 core-fv (Write p x) v s sv k a = restart-fv (timerOf p) (heard v s) ∙ heard-fv v s
@@ -148,13 +150,15 @@ by-log : (sv : Saved) (w : World) (v : Service) (fs : List Frame) → Told sv w 
     → Safe v (made (λ (q : Parameter). value sv q (deeds (w .log)))) (fvOf (w .log)) fs
 by-log sv w v fs h e k = subst₂ (λ (y : Settings) (x : Fv). Safe v y x fs) (ap made (fun-ext (h .values))) e k
 
-step-fv : (e : List ℕ) (s : State) (st : List ℕ) → rules s ≡ true → step e s st .state .core .fv ≡ fvAfter (changeOf (service e) s (read st)) (service e) (s .core .fv)
+step-fv : (e : List ℕ) (s : State) (st : List ℕ) → rules s ≡ true
+    → step e s st .state .core .fv ≡ fvAfter (changeOf (service e) s (read st)) (service e) (s .core .fv)
 unfolding step served
 step-fv e s st r =
     let c = changeOf (service e) s (read st) in
     core-fv c (service e) s (read st) (applied c (s .settings) (read st)) (change-allowed s st r (service e))
 
-fv-next : (sv : Saved) (c : Call) (w : World) → Told sv w → w .state .core .fv ≡ fvOf (w .log) → continued c w .state .core .fv ≡ fvOf (continued c w .log)
+fv-next : (sv : Saved) (c : Call) (w : World) → Told sv w → w .state .core .fv ≡ fvOf (w .log)
+    → continued c w .state .core .fv ≡ fvOf (continued c w .log)
 unfolding continued fvOf
 fv-next sv c w h f =
     cond-case (λ (x : World). x .state .core .fv ≡ fvOf (x .log)) (eqb (refusal (c .event) (w .state) (c .room) (length (w .store))) done)
@@ -164,7 +168,8 @@ fv-next sv c w h f =
     (step-fv (c .event) (w .state) (w .store) r ∙ ap (fvAfter (changeOf (service (c .event)) (w .state) (read (w .store))) (service (c .event))) f))
     (λ e. rw e f)
 
-safe-next : (sv : Saved) (c : Call) (w : World) → Shown sv w → Told sv (continued c w) → continued c w .state .core .fv ≡ fvOf (continued c w .log) → SafeLog sv (continued c w .log)
+safe-next : (sv : Saved) (c : Call) (w : World) → Shown sv w → Told sv (continued c w)
+    → continued c w .state .core .fv ≡ fvOf (continued c w .log) → SafeLog sv (continued c w .log)
 unfolding continued
 safe-next sv c w h =
     cond-case (λ (x : World). Told sv x → x .state .core .fv ≡ fvOf (x .log) → SafeLog sv (x .log)) (eqb (refusal (c .event) (w .state) (c .room) (length (w .store))) done)
@@ -187,19 +192,22 @@ unfolding run
 shown-run sv [] w h = h
 shown-run sv (c ∷ cs) w h = shown-run sv cs (continued c w) (shown-next sv c w h)
 
-begun-fv : (i : Identity) (room : ℕ) (st : List ℕ) → powerOnRefusal room (length st) ≡ done → begun i room st .state .core .fv ≡ fvOf (begun i room st .log)
+begun-fv : (i : Identity) (room : ℕ) (st : List ℕ) → powerOnRefusal room (length st) ≡ done
+    → begun i room st .state .core .fv ≡ fvOf (begun i room st .log)
 unfolding begun fvOf powerOn
 begun-fv i room st e = rw e (unfold served coreAfter in reset-fv Both (addressFrom (read st) .id) (read st) _ (unborn i .core) refl)
 
 begun-log : (i : Identity) (room : ℕ) (st : List ℕ) → powerOnRefusal room (length st) ≡ done
-    → Told (read st) (begun i room st) → begun i room st .state .core .fv ≡ fvOf (begun i room st .log) → SafeLog (read st) (begun i room st .log)
+    → Told (read st) (begun i room st) → begun i room st .state .core .fv ≡ fvOf (begun i room st .log)
+    → SafeLog (read st) (begun i room st .log)
 unfolding begun
 begun-log i room st e =
     let o = powerOn i st in
     let w : World = record { state = o .state; store = o .store; log = powered room done (o .sent) ∷ [] } in
     rw e (λ told fv. (by-log (read st) w Nothing (o .sent) told fv (power-on-safe i st), tt))
 
-shown-begun : (i : Identity) (room : ℕ) (st : List ℕ) → powerOnRefusal room (length st) ≡ done → Bytes st → Shown (read st) (begun i room st)
+shown-begun : (i : Identity) (room : ℕ) (st : List ℕ) → powerOnRefusal room (length st) ≡ done → Bytes st
+    → Shown (read st) (begun i room st)
 shown-begun i room st e b =
     let t = told-begun i room st e b in
     let f = begun-fv i room st e in

@@ -59,7 +59,8 @@ abbrev pub every : (Parameter → Bool) → List Parameter → Bool
 every test [] = true
 every test (p ∷ ps) = test p && every test ps
 
-every-at : (test : Parameter → Bool) (ps : List Parameter) (n : ℕ) (d : Parameter) → test d ≡ true → every test ps ≡ true → test (getD ps n d) ≡ true
+every-at : (test : Parameter → Bool) (ps : List Parameter) (n : ℕ) (d : Parameter) → test d ≡ true → every test ps ≡ true
+    → test (getD ps n d) ≡ true
 every-at test [] n d t h = t
 every-at test (p ∷ ps) zero d t h = and-l (test p) (every test ps) h
 every-at test (p ∷ ps) (suc n) d t h = every-at test ps n d t (and-r (test p) (every test ps) h)
@@ -114,7 +115,8 @@ fine : {p : Parameter} {v : Value} → Typed p v → Holds v → isInside (judge
 fine k h i = record { fits = record { kind = k; holds = h }; inside = i }
 
 -- each of some rows in range is in range
-pub range-at : (ps : List Parameter) (f : Parameter → Value) (p : Parameter) → among ps p ≡ true → inRanges ps f ≡ true → isInside (judge (row p .range) (f p)) ≡ true
+pub range-at : (ps : List Parameter) (f : Parameter → Value) (p : Parameter) → among ps p ≡ true → inRanges ps f ≡ true
+    → isInside (judge (row p .range) (f p)) ≡ true
 unfolding inRanges
 range-at [] f p m h = cc
 range-at (q ∷ qs) f p m h = go (same p q) refl m (λ n. range-at qs f p n (and-r (isInside (judge (row q .range) (f q))) _ h))
@@ -126,7 +128,8 @@ range-at (q ∷ qs) f p m h = go (same p q) refl m (λ n. range-at qs f p n (and
         subst (λ (x : Parameter). isInside (judge (row x .range) (f x)) ≡ true) (sym (same-eq p q e)) (and-l _ (inRanges qs f) h)
     go false e m further = further m
 
-pub ranges-from : (ps : List Parameter) (f : Parameter → Value) → ((p : Parameter) → isInside (judge (row p .range) (f p)) ≡ true) → inRanges ps f ≡ true
+pub ranges-from : (ps : List Parameter) (f : Parameter → Value) → ((p : Parameter) → isInside (judge (row p .range) (f p)) ≡ true)
+    → inRanges ps f ≡ true
 unfolding inRanges
 ranges-from [] f h = refl
 ranges-from (p ∷ ps) f h = and-both _ (inRanges ps f) (h p) (ranges-from ps f h)
@@ -221,7 +224,8 @@ typed-is k (U32 n) e h = subst (λ (x : Kind). typed x n ≡ U32 n) e refl
 typed-is k (Integer32 z) e h = absurd (false≢true (ap plain e ∙ h))
 typed-is k (Real32 x) e h = absurd (false≢true (ap plain e ∙ h))
 
-whole-after : (p : Parameter) (now : Now) (n : ℕ) → plain (row p .kind) ≡ true → Becomes Typed p now → typed (row p .kind) (whole now n) ≡ after now (typed (row p .kind) n)
+whole-after : (p : Parameter) (now : Now) (n : ℕ) → plain (row p .kind) ≡ true → Becomes Typed p now
+    → typed (row p .kind) (whole now n) ≡ after now (typed (row p .kind) n)
 whole-after p stays n e h = refl
 whole-after p (becomes v) n e h = typed-is (row p .kind) v h e
 
@@ -232,11 +236,13 @@ real-is (U32 n) e = cc
 real-is (Integer32 z) e = cc
 real-is (Real32 x) e = refl
 
-float-after : (p : Parameter) (now : Now) (x : Float) → row p .kind ≡ K.Real32 → Becomes Typed p now → Real32 (float now x) ≡ after now (Real32 x)
+float-after : (p : Parameter) (now : Now) (x : Float) → row p .kind ≡ K.Real32 → Becomes Typed p now
+    → Real32 (float now x) ≡ after now (Real32 x)
 float-after p stays x e h = refl
 float-after p (becomes v) x e h = real-is v (h ∙ e)
 
-pub altered-is : (now : Parameter → Now) (k : Settings) → ((p : Parameter) → Becomes Typed p (now p)) → (p : Parameter) → inForce (altered now k) p ≡ after (now p) (inForce k p)
+pub altered-is : (now : Parameter → Now) (k : Settings) → ((p : Parameter) → Becomes Typed p (now p)) → (p : Parameter)
+    → inForce (altered now k) p ≡ after (now p) (inForce k p)
 altered-is now k h P1017 = whole-after P1017 (now P1017) _ refl (h P1017)
 altered-is now k h P1301s1 = whole-after P1301s1 (now P1301s1) _ refl (h P1301s1)
 altered-is now k h P1301s2 = whole-after P1301s2 (now P1301s2) _ refl (h P1301s2)

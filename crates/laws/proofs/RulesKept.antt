@@ -52,7 +52,8 @@ unmarks-star p q h =
     implies (among (covered (row p .group)) p || same p (signatureOf (row p .group))) _ (and-r (same q (validityOf (row p .group))) _ h)
     (by-table (λ (x : Parameter). not (among (covered (row x .group)) x || same x (signatureOf (row x .group))) || row x .star) refl p)
 
-free-stays : (p q : Parameter) (v : Value) (k : Settings) (sv : Saved) → row p .star ≡ false → row q .star ≡ true → effect (Write p v) k sv q ≡ stays
+free-stays : (p q : Parameter) (v : Value) (k : Settings) (sv : Saved) → row p .star ≡ false → row q .star ≡ true
+    → effect (Write p v) k sv q ≡ stays
 unfolding effect
 free-stays p q v k sv a b =
     cond-case (λ (n : Now). n ≡ stays) (same q p) (λ e. absurd (false≢true (sym a ∙ ap (λ (x : Parameter). row x .star) (sym (same-eq q p e)) ∙ b)))
@@ -60,7 +61,8 @@ free-stays p q v k sv a b =
     (λ e. absurd (false≢true (sym a ∙ unmarks-star p q (and-l _ (changes p v (inForce k)) e)))) (λ _. refl))
 
 -- Start looks at three values
-start-by : (k m : Settings) → inForce k P51FE ≡ inForce m P51FE → inForce k P1301s1 ≡ inForce m P1301s1 → inForce k P13FE ≡ inForce m P13FE → startObeyed k ≡ startObeyed m
+start-by : (k m : Settings) → inForce k P51FE ≡ inForce m P51FE → inForce k P1301s1 ≡ inForce m P1301s1 → inForce k P13FE ≡ inForce m P13FE
+    → startObeyed k ≡ startObeyed m
 unfolding startObeyed
 start-by k m a b c = rw (ap numberOf a, ap numberOf b, ap numberOf c) refl
 
@@ -159,7 +161,8 @@ module _ (s : State) (st : List ℕ) (r : rules s ≡ true) where
       → CountOk (applied (Write p x) (s .settings) (read st) .communication .tpdo .kind) (restart (timerOf p) (heard v s))
   write-sync p x v b = go (same P1800s2 p) refl
     where
-      go : (t : Bool) → same P1800s2 p ≡ t → CountOk (applied (Write p x) (s .settings) (read st) .communication .tpdo .kind) (restart (timerOf p) (heard v s))
+      go : (t : Bool) → same P1800s2 p ≡ t
+          → CountOk (applied (Write p x) (s .settings) (read st) .communication .tpdo .kind) (restart (timerOf p) (heard v s))
       go true e =
           subst (λ (q : Parameter). CountOk (applied (Write q x) (s .settings) (read st) .communication .tpdo .kind) (restart (timerOf q) (heard v s))) (same-eq P1800s2 p e)
           (unfold timerOf firstHit in zero-sync (applied (Write P1800s2 x) (s .settings) (read st) .communication .tpdo .kind))
@@ -176,7 +179,8 @@ module _ (s : State) (st : List ℕ) (r : rules s ≡ true) where
 
 -- ---- the reported flag
 
-flag : (a c r : Bool) (t : State) → isStopped (t .core) ≡ a → capped t ≡ c → t .core .reported ≡ r → a || not (differ c (reportedAfter (not a && differ c r) t)) ≡ true
+flag : (a c r : Bool) (t : State) → isStopped (t .core) ≡ a → capped t ≡ c → t .core .reported ≡ r
+    → a || not (differ c (reportedAfter (not a && differ c r) t)) ≡ true
 flag true c r t e f g = refl
 flag false true true t e f g = rw g refl
 flag false true false t e f g = rw f refl

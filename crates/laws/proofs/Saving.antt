@@ -32,7 +32,8 @@ length-encoded : (p : Parameter) (v : Value) → kindOf v ≡ row p .kind → le
 length-encoded p v e = length-le (widthOf (kindOf v)) (numberOf v) ∙ ap widthOf e
 
 -- where rows stand one after the other, each is found in its place
-found : (before : List ℕ) (at : ℕ) (ps : List Parameter) (f : Parameter → Value) (p : Parameter) → length before ≡ at → AllFit f → among ps p ≡ true
+found : (before : List ℕ) (at : ℕ) (ps : List Parameter) (f : Parameter → Value) (p : Parameter) → length before ≡ at → AllFit f
+    → among ps p ≡ true
     → part (placeFrom at ps p) (widthOf (row p .kind)) (before ++ bytesOf ps f) ≡ encoded (f p)
 unfolding bytesOf
 found before at [] f p e h m = cc
@@ -60,12 +61,14 @@ pub field-record : (p : Parameter) (id : ℕ) (f : Parameter → Value) → AllF
 unfolding field placeOf
 field-record p id f h = ap (λ (l : List ℕ). typed (row p .kind) (unle l)) (go (row p .group) (in-rows p)) ∙ value-back p (f p) (h p)
   where
-    go : (g : Group) → among (rows g) p ≡ true → part (placeFrom (rowsAt g) (rows g) p) (widthOf (row p .kind)) (recordOf g id f) ≡ encoded (f p)
+    go : (g : Group) → among (rows g) p ≡ true
+        → part (placeFrom (rowsAt g) (rows g) p) (widthOf (row p .kind)) (recordOf g id f) ≡ encoded (f p)
     go C m = unfold recordOf in found (id ∷ []) 1 (rows C) f p refl h m
     go A m = unfold recordOf in found [] 0 (rows A) f p refl h m
 
 -- so it is with the values in force, if their types hold them
-pub settings-record : (k : Settings) (id : ℕ) → ((q : Parameter) → Holds (inForce k q)) → (p : Parameter) → field (recordOf (row p .group) id (inForce k)) p ≡ inForce k p
+pub settings-record : (k : Settings) (id : ℕ) → ((q : Parameter) → Holds (inForce k q)) → (p : Parameter)
+    → field (recordOf (row p .group) id (inForce k)) p ≡ inForce k p
 settings-record k id h p = field-record p id (inForce k) (in-force-fits k h)
 
 -- ---- a record of sound values is accepted
@@ -99,7 +102,8 @@ ranges-own C f = refl
 ranges-own A f = refl
 
 -- so its ranges are kept if each of its own is
-pub ranges-in : (g : Group) (f : Parameter → Value) → ((q : Parameter) → row q .group ≡ g → isInside (judge (row q .range) (f q)) ≡ true) → inRanges (rows g) f ≡ true
+pub ranges-in : (g : Group) (f : Parameter → Value) → ((q : Parameter) → row q .group ≡ g → isInside (judge (row q .range) (f q)) ≡ true)
+    → inRanges (rows g) f ≡ true
 ranges-in g f h = sym (ranges-own g f) ∙ ranges-from (rows g) (own g f) inside
   where
     inside : (q : Parameter) → isInside (judge (row q .range) (own g f q)) ≡ true
@@ -123,7 +127,8 @@ record-sound : (g : Group) (id : ℕ) (f : Parameter → Value) → AllFit f →
 record-sound g id f h =
     sound-by g (field (recordOf g id f)) f (λ q e. subst (λ (x : Group). field (recordOf x id f) q ≡ f q) e (field-record q id f h))
 
-pub record-ok : (g : Group) (id : ℕ) (f : Parameter → Value) → nodeId id ≡ true → AllFit f → sound g f ≡ true → ok g (recordOf g id f) ≡ true
+pub record-ok : (g : Group) (id : ℕ) (f : Parameter → Value) → nodeId id ≡ true → AllFit f → sound g f ≡ true
+    → ok g (recordOf g id f) ≡ true
 unfolding ok
 record-ok g id f a h s =
     rw (length-record g id f (all-typed f h), eq-eqb (sizeOfRecord g) (sizeOfRecord g) refl, sound-of g s) (or-true (eqb (sizeOfRecord g) 0))
@@ -139,7 +144,8 @@ record-ok g id f a h s =
 -- ---- an image written anew
 
 -- of an image that is built anew each record comes back
-pub built-saved : (n : List ℕ) (r : Group → List ℕ) → okN n ≡ true → ((g : Group) → ok g (r g) ≡ true) → (g : Group) → saved g (read (build n (r C) (r A))) ≡ r g
+pub built-saved : (n : List ℕ) (r : Group → List ℕ) → okN n ≡ true → ((g : Group) → ok g (r g) ≡ true) → (g : Group)
+    → saved g (read (build n (r C) (r A))) ≡ r g
 built-saved n r a h C = ap (saved C) (read-build n (r C) (r A) (record { n-ok = a; c-ok = h C; a-ok = h A }))
 built-saved n r a h A = ap (saved A) (read-build n (r C) (r A) (record { n-ok = a; c-ok = h C; a-ok = h A }))
 
@@ -184,7 +190,8 @@ unfolding loaded
 loaded-record p id f sv h e = rw (e, own-id p id f) (field-record p id f h)
 
 -- THE THEOREM: what is saved under an ID and loaded under the same ID is what was there, for each parameter of the groups saved, whatever the store held
-pub saved-loaded : (gs : Groups) (id : ℕ) (f : Parameter → Value) (st : List ℕ) → nodeId id ≡ true → AllFit f → ((g : Group) → sound g f ≡ true)
+pub saved-loaded : (gs : Groups) (id : ℕ) (f : Parameter → Value) (st : List ℕ) → nodeId id ≡ true → AllFit f
+    → ((g : Group) → sound g f ≡ true)
     → (p : Parameter) → has gs (row p .group) ≡ true
     → loaded id (read (renewed gs (λ (g : Group). recordOf g id f) (read st))) p ≡ f p
 unfolding groupFrom

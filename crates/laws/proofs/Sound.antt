@@ -73,7 +73,8 @@ under-other g h q u = not-true _ (implies (among (covered (row q .group)) q || s
 under-stays : (g : Group) (p q : Parameter) → Under g q → unmarks p q ≡ false
 under-stays g p q u = unfold unmarks in rw (under-other g (row p .group) q u) refl
 
-honest-by : (g : Group) (f h : Parameter → Value) → numberOf (f (validityOf g)) ≡ numberOf (h (validityOf g)) → valid g f ≡ valid g h → honest g f ≡ honest g h
+honest-by : (g : Group) (f h : Parameter → Value) → numberOf (f (validityOf g)) ≡ numberOf (h (validityOf g)) → valid g f ≡ valid g h
+    → honest g f ≡ honest g h
 honest-by g f h m e = rw (m, e) refl
 
 same-alike : (v : Value) → Alike v v
@@ -88,11 +89,13 @@ mark-honest false b h = refl
 
 module _ (s : State) (sv : Saved) where
   -- a validity byte is written
-  mark-write : (g : Group) (v : Value) → falseMark (validityOf g) v s ≡ false → honest g (new (Write (validityOf g) v) (s .settings) sv) ≡ true
+  mark-write : (g : Group) (v : Value) → falseMark (validityOf g) v s ≡ false
+      → honest g (new (Write (validityOf g) v) (s .settings) sv) ≡ true
   unfolding falseMark effect
   mark-write g v h = go g h
     where
-      rest : (g : Group) (q : Parameter) → row (validityOf g) .group ≡ g → Under g q → new (Write (validityOf g) v) (s .settings) sv q ≡ inForce (s .settings) q
+      rest : (g : Group) (q : Parameter) → row (validityOf g) .group ≡ g → Under g q
+          → new (Write (validityOf g) v) (s .settings) sv q ≡ inForce (s .settings) q
       rest g q e u = rw (under-other g g q u, under-stays g (validityOf g) q u) refl
 
       go : (g : Group) → falseMark (validityOf g) v s ≡ false → honest g (new (Write (validityOf g) v) (s .settings) sv) ≡ true
@@ -104,12 +107,14 @@ module _ (s : State) (sv : Saved) where
           (mark-honest (eqb (numberOf v) A5h) (valid A (inForce (s .settings))) h)
 
   -- another parameter is written: where that is a change of what is signed, the byte goes to 0
-  write-alike : (p q : Parameter) (v : Value) (g : Group) → kindOf v ≡ kindOf (inForce (s .settings) p) → unmarks p (validityOf g) && changes p v (inForce (s .settings)) ≡ false → Under g q
+  write-alike : (p q : Parameter) (v : Value) (g : Group) → kindOf v ≡ kindOf (inForce (s .settings) p)
+      → unmarks p (validityOf g) && changes p v (inForce (s .settings)) ≡ false → Under g q
       → Alike (new (Write p v) (s .settings) sv q) (inForce (s .settings) q)
   unfolding effect
   write-alike p q v g k t u = go (same q p) refl
     where
-      go : (b : Bool) → same q p ≡ b → Alike (after (cond b (becomes v) (cond (unmarks p q && changes p v (inForce (s .settings))) unmarked stays)) (inForce (s .settings) q)) (inForce (s .settings) q)
+      go : (b : Bool) → same q p ≡ b
+          → Alike (after (cond b (becomes v) (cond (unmarks p q && changes p v (inForce (s .settings))) unmarked stays)) (inForce (s .settings) q)) (inForce (s .settings) q)
       go true e =
           let d : q ≡ p = same-eq q p e in
           subst (λ (x : Parameter). Alike v (inForce (s .settings) x)) (sym d)
@@ -137,7 +142,8 @@ module _ (s : State) (sv : Saved) where
   take-honest : (gs : Groups) (g : Group) → honest g (inForce (s .settings)) ≡ true → honest g (new (TakeOut gs) (s .settings) sv) ≡ true
   take-honest gs g h = go (has gs (row (validityOf g) .group) && same (validityOf g) (validityOf (row (validityOf g) .group))) refl
     where
-      go : (b : Bool) → has gs (row (validityOf g) .group) && same (validityOf g) (validityOf (row (validityOf g) .group)) ≡ b → honest g (new (TakeOut gs) (s .settings) sv) ≡ true
+      go : (b : Bool) → has gs (row (validityOf g) .group) && same (validityOf g) (validityOf (row (validityOf g) .group)) ≡ b
+          → honest g (new (TakeOut gs) (s .settings) sv) ≡ true
       go true t = unfold effect in rw t refl
       go false t =
           honest-by g (new (TakeOut gs) (s .settings) sv) (inForce (s .settings)) (unfold effect in rw t refl)
@@ -161,7 +167,8 @@ mixed-honest C id r true h = refl
 mixed-honest C id r false h = h
 mixed-honest A id r hit h = h
 
-mixed-sound : (g : Group) (id : ℕ) (r : List ℕ) (hit : Bool) → 1 ≤ id → id ≤ 127 → sound g (field r) ≡ true → sound g (mixed id r hit) ≡ true
+mixed-sound : (g : Group) (id : ℕ) (r : List ℕ) (hit : Bool) → 1 ≤ id → id ≤ 127 → sound g (field r) ≡ true
+    → sound g (mixed id r hit) ≡ true
 unfolding sound
 mixed-sound g id r hit a b h =
     and-both (inRanges (rows g) (mixed id r hit)) (honest g (mixed id r hit))
@@ -217,7 +224,8 @@ brings-right s st (TakeOut gs) a = tt
 brings-right s st (Load gs id) a = let i = within-is 1 127 id (a .0) in loaded-right id st (i .0) (i .1)
 brings-right s st SavePending a = tt
 
-pub applied-is : (s : State) (st : List ℕ) (c : Change) → Allowed c s → (q : Parameter) → inForce (applied c (s .settings) (read st)) q ≡ new c (s .settings) (read st) q
+pub applied-is : (s : State) (st : List ℕ) (c : Change) → Allowed c s → (q : Parameter)
+    → inForce (applied c (s .settings) (read st)) q ≡ new c (s .settings) (read st) q
 applied-is s st c a q = applied-new c (s .settings) (read st) (brings-map Right Typed (λ p v h. h .0) (read st) c (brings-right s st c a)) q
 
 module _ (s : State) (st : List ℕ) (r : rules s ≡ true) where

@@ -29,7 +29,8 @@ use Rattle.laws.proofs.Parameters.{in-force-kind}
 use Rattle.laws.proofs.Saving.{length-record}
 
 -- records that are no longer than they may be
-built : (n : List ℕ) (r : Group → List ℕ) → length n ≤ sizeN → ((g : Group) → length (r g) ≤ sizeOfRecord g) → length (build n (r C) (r A)) ≡ storeSize
+built : (n : List ℕ) (r : Group → List ℕ) → length n ≤ sizeN → ((g : Group) → length (r g) ≤ sizeOfRecord g)
+    → length (build n (r C) (r A)) ≡ storeSize
 built n r a h = length-build n (r C) (r A) (omega (arith, a, h C, h A))
 
 n-most : (st : List ℕ) → length (savedN (read st)) ≤ sizeN
@@ -38,7 +39,8 @@ n-most st = size-le sizeN (savedN (read st)) (sized-n (savedN (read st)) (read-n
 most : (g : Group) (st : List ℕ) → length (saved g (read st)) ≤ sizeOfRecord g
 most g st = size-le (sizeOfRecord g) (saved g (read st)) (sized-of g (saved g (read st)) (read-ok g st))
 
-renewed-size : (gs : Groups) (r : Group → List ℕ) (st : List ℕ) → ((g : Group) → length (r g) ≤ sizeOfRecord g) → length (renewed gs r (read st)) ≡ storeSize
+renewed-size : (gs : Groups) (r : Group → List ℕ) (st : List ℕ) → ((g : Group) → length (r g) ≤ sizeOfRecord g)
+    → length (renewed gs r (read st)) ≡ storeSize
 unfolding renewed
 renewed-size gs r st h =
     built (savedN (read st)) (renewedRecord gs r (read st)) (n-most st)
