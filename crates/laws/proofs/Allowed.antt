@@ -50,10 +50,6 @@ pub pending-ok : (s : State) → rules s ≡ true → nodeId (s .core .pending .
 unfolding rules ruleIds
 pending-ok s r = search (and-l, and-r)
 
-pub bit-ok : (s : State) → rules s ≡ true → bitIndex (s .core .active .bit) ≡ true
-unfolding rules ruleBits
-bit-ok s r = search (and-l, and-r)
-
 pub pending-bit-ok : (s : State) → rules s ≡ true → bitIndex (s .core .pending .bit) ≡ true
 unfolding rules ruleBits
 pending-bit-ok s r = search (and-l, and-r)

@@ -3,7 +3,7 @@ use mathlib.Core.Path.{_≡_}
 use mathlib.Core.List.{List, [], _∷_, _++_}
 use Prim.Native.Nat.{ℕ, zero, suc, _^_, _<_}
 use native.Mathlib.Omega.{arith}
-use lib.ListN.{length, take, drop, getD}
+use lib.ListN.{length, take, drop}
 use lib.Seq.{take-at, drop-at}
 use Rattle.model.specs.Bytes.{unle, part}
 
@@ -36,11 +36,6 @@ unle-lt (suc n) (b ∷ bs) h = let k = unle-lt n bs (h .1) in omega arith
 pub part-lt : (at n : ℕ) (l : List ℕ) → Bytes l → unle (part at n l) < 256 ^ n
 unfolding part
 part-lt at n l h = unle-lt n (drop at l) (bytes-drop at l h)
-
-pub byte-lt : (i : ℕ) (l : List ℕ) → Bytes l → getD l i 0 < 256
-byte-lt i [] h = omega arith
-byte-lt zero (b ∷ bs) h = h .0
-byte-lt (suc i) (b ∷ bs) h = byte-lt i bs (h .1)
 
 -- some bytes behind others and before others
 pub part-mid : (p v r : List ℕ) (at k : ℕ) → length p ≡ at → length v ≡ k → part at k (p ++ (v ++ r)) ≡ v

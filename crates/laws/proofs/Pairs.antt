@@ -76,7 +76,9 @@ bits-fit k fv = toBits-lt binary32 _ (add-fits binary32 _ _)
 pub inverse-of : (k : Settings) (fv : Fv) → bitsOf k fv + (0xffffffff - bitsOf k fv) ≡ 0xffffffff
 inverse-of k fv = let h : bitsOf k fv < 2 ^ 32 = bits-fit k fv in omega arith
 
--- frames a and b are a pair in the answer to v, with the settings k and FV in force
+-- frames a and b are a pair in the answer to v, with the settings k and FV in force: v is a tick; a carries the bits of PV on 1301h:5, and b
+-- their inverse on 1301h:6; both signatures are the CRCs of the values in force; the second COB-ID follows the first; and the reading is not
+-- capped (as that of an infinity or a NaN would be)
 pub record Pair (v : Service) (k : Settings) (fv : Fv) (a b : Frame) : Type 0 where
   pub in-tick : v ≡ Tick
   pub first : a ≡ frame (k .communication .srdo .first) (le 4 (bitsOf k fv))

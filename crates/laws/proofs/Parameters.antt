@@ -8,7 +8,7 @@ use lib.Dec.{ltb, lit<, lit≤}
 use lib.ListN.{getD}
 use lib.Ieee.{Float, binary32, ofBits}
 use lib.Ieee.Bits.{ofBits-fits}
-use borrow.Author.Tests.{eqb-true, eq-eqb, le-leb, ltb-false}
+use borrow.Author.Tests.{eqb-true, le-leb, ltb-false}
 use Rattle.model.specs.declared.Value.{Value}
 use Rattle.model.specs.declared.Value.the-variants.{U8, U16, U32, Integer32, Real32}
 use Rattle.model.specs.declared.Kind.{Kind}
@@ -52,9 +52,6 @@ row-back P51FF = refl
 pub same-eq : (p q : Parameter) → same p q ≡ true → p ≡ q
 same-eq p q h = sym (row-back p) ∙ ap (λ (n : ℕ). getD table n P1017) (eqb-true (row p .number) (row q .number) h) ∙ row-back q
 
-pub same-self : (p : Parameter) → same p p ≡ true
-same-self p = eq-eqb (row p .number) (row p .number) refl
-
 abbrev pub every : (Parameter → Bool) → List Parameter → Bool
 every test [] = true
 every test (p ∷ ps) = test p && every test ps
@@ -76,10 +73,6 @@ group-eq C C e = refl
 group-eq C A e = cc
 group-eq A C e = cc
 group-eq A A e = refl
-
-pub group-self : (g : Group) → sameGroup g g ≡ true
-group-self C = refl
-group-self A = refl
 
 pub in-rows : (p : Parameter) → among (rows (row p .group)) p ≡ true
 unfolding rows

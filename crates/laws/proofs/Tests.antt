@@ -5,7 +5,7 @@ use mathlib.Core.List.{List, [], _∷_}
 use Prim.Native.Nat.{ℕ, _≤_}
 use native.Mathlib.Omega.{arith}
 use lib.Dec.{eqb, leb}
-use borrow.Author.Tests.{eqb-false, leb-true, le-leb}
+use borrow.Author.Tests.{eqb-false, leb-true}
 use Rattle.model.specs.Choice.{Arm, _⇒_, firstHit}
 use Rattle.model.specs.Bytes.{within}
 
@@ -15,10 +15,6 @@ use Rattle.model.specs.Bytes.{within}
 pub cond-case : {X : Type 0} (P : X → Type 0) (b : Bool) {x y : X} → (b ≡ true → P x) → (b ≡ false → P y) → P (cond b x y)
 cond-case P true f g = f refl
 cond-case P false f g = g refl
-
-pub cond-same : {X : Type 0} (b : Bool) (x : X) → cond b x x ≡ x
-cond-same true x = refl
-cond-same false x = refl
 
 pub cond-ap : {X Y : Type 0} (f : X → Y) (b : Bool) (x y : X) → f (cond b x y) ≡ cond b (f x) (f y)
 cond-ap f true x y = refl
@@ -47,9 +43,6 @@ off a b e = rw e refl
 
 pub within-is : (lo hi n : ℕ) → within lo hi n ≡ true → (lo ≤ n) × (n ≤ hi)
 within-is lo hi n h = (leb-true lo n (and-l _ (leb n hi) h), leb-true n hi (and-r (leb lo n) _ h))
-
-pub is-within : (lo hi n : ℕ) → lo ≤ n → n ≤ hi → within lo hi n ≡ true
-is-within lo hi n a b = rw (le-leb lo n a, le-leb n hi b) refl
 
 -- ---- a choice
 
