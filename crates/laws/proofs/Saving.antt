@@ -191,7 +191,7 @@ loaded-record p id f sv h e = rw (e, own-id p id f) (field-record p id f h)
 
 -- THE THEOREM: what is saved under an ID and loaded under the same ID is what was there, for each parameter of the groups saved, whatever the store held
 pub saved-loaded : (gs : Groups) (id : ℕ) (f : Parameter → Value) (st : List ℕ) → nodeId id ≡ true → AllFit f
-    → ((g : Group) → sound g f ≡ true)
+    → ((g : Group) → has gs g ≡ true → sound g f ≡ true)
     → (p : Parameter) → has gs (row p .group) ≡ true
     → loaded id (read (renewed gs (λ (g : Group). recordOf g id f) (read st))) p ≡ f p
 unfolding groupFrom
@@ -199,5 +199,5 @@ saved-loaded gs id f st a h s p m =
     let g = row p .group in
     let sv = read (renewed gs (λ (x : Group). recordOf x id f) (read st)) in
     let e : saved g sv ≡ recordOf g id f =
-    renewed-saved gs (λ (x : Group). recordOf x id f) st (λ x _. record-ok x id f a h (s x)) g ∙ rw m refl in
+    renewed-saved gs (λ (x : Group). recordOf x id f) st (λ x n. record-ok x id f a h (s x n)) g ∙ rw m refl in
     loaded-record p id f sv h (rw e (or-record g id f _ h))
