@@ -1,0 +1,29 @@
+-- Theorems over the definitions of `model`, and over nothing else: no code is looked at here.
+
+-- tests, bytes and values: encoding and decoding are inverse
+pub mod Tests
+pub mod Bytes
+pub mod Values
+-- the store: one image; what is saved and loaded again is what was in force
+pub mod Image
+pub mod Parameters
+pub mod Saving
+pub mod Loading
+-- what a service may change, and what a change does
+pub mod Allowed
+pub mod Effects
+-- the history of every saved parameter, from the bus log alone
+pub mod LookBack
+pub mod Deeds
+pub mod History
+-- at most four frames; the state rules are kept; the store stays 64 bytes
+pub mod Count
+pub mod Sound
+pub mod CoreRules
+pub mod RulesKept
+pub mod StoreSize
+-- safety pairs; nothing is written by halves; one answer
+pub mod Pairs
+pub mod PairsInLog
+pub mod HalfWrites
+pub mod OneAnswer

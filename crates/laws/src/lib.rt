@@ -1,0 +1,1 @@
+// No code: the theorems over the definitions of `model` stand in proofs/.
