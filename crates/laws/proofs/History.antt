@@ -26,7 +26,7 @@ use Rattle.model.specs.Changes.{effect, applied, stored}
 use Rattle.model.specs.Rules.{rules}
 use Rattle.model.specs.Step.{done, refusal, powerOnRefusal, changeOf, reply, served, step, unborn, powerOn}
 use Rattle.model.specs.Run.{Call, World, begun, continued, run}
-use Rattle.model.specs.History.{serviceDeed, deed, activeId, deeds, firstHeld, firstHeldId, heldId, value, held}
+use Rattle.model.specs.History.{serviceDeed, deed, activeId, deeds, heldFor, heldIdIn, heldId, value, held}
 use Rattle.laws.proofs.Tests.{cond-case, hit-zero}
 use Rattle.laws.proofs.Bytes.{Bytes}
 use Rattle.laws.proofs.Parameters.{AllFit, all-typed, default-fine, made-is}
@@ -129,9 +129,9 @@ module _ (i : Identity) (room : ℕ) (st : List ℕ) (cs : List Call) (accepted 
   history-id = all-told .id-is
 
   -- the store holds for each parameter what the log says
-  pub ledger : (q : Parameter) → firstHeld (read (ran i room st cs .store)) q ≡ held (read st) q (deeds (ran i room st cs .log))
+  pub ledger : (q : Parameter) → heldFor (read (ran i room st cs .store)) q ≡ held (read st) q (deeds (ran i room st cs .log))
   ledger q = all-told .helds q
 
   -- and so for the ID that C was saved with
-  pub ledger-id : firstHeldId (read (ran i room st cs .store)) ≡ heldId (read st) (deeds (ran i room st cs .log))
+  pub ledger-id : heldIdIn (read (ran i room st cs .store)) ≡ heldId (read st) (deeds (ran i room st cs .log))
   ledger-id = all-told .held-id

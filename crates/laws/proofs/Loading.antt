@@ -17,7 +17,7 @@ use Rattle.model.specs.Values.{widthOf}
 use Rattle.model.specs.Settings.{row, has}
 use Rattle.model.specs.Validity.{sound}
 use Rattle.model.specs.Store.{recordOf, sizeOfRecord, placeOf, field, nodeId, bitIndex, soundN, soundRecord, okN, ok, build, Saved, nIn, cIn, aIn, savedIf, isGood, read, savedN, saved, orElse, defaultFor, factory, factoryPlace, groupFrom, followsId, loaded, addressFrom, renewed}
-use Rattle.model.specs.History.{Held, absent, kept, heldIn, firstHeld, headOf, firstHeldId, isOther, settled}
+use Rattle.model.specs.History.{Held, absent, kept, heldIn, heldFor, headOf, heldIdIn, isOther, settled}
 use Rattle.laws.proofs.Tests.{cond-case, cond-ap, and-l, and-r}
 use Rattle.laws.proofs.Bytes.{Bytes, bytes-part, part-lt, part-mid}
 use Rattle.laws.proofs.Values.{typed-kind, typed-holds}
@@ -58,8 +58,8 @@ abbrev pub FitsHeld : Parameter → Held Value → Type 0
 FitsHeld q absent = Unit {0}
 FitsHeld q (kept v) = Fits q v
 
-pub first-held : (st : List ℕ) → Bytes st → (q : Parameter) → FitsHeld q (firstHeld (read st) q)
-unfolding firstHeld
+pub first-held : (st : List ℕ) → Bytes st → (q : Parameter) → FitsHeld q (heldFor (read st) q)
+unfolding heldFor
 first-held st b q = go (saved (row q .group) (read st)) (read-bytes (row q .group) st b)
   where
     go : (r : List ℕ) → Bytes r → FitsHeld q (heldIn (λ (x : List ℕ). field x q) r)
@@ -84,8 +84,8 @@ factory-part A id a b =
 
 -- the COB-ID rule looks at the ID that is held with C
 other-id : (q : Parameter) (sv : Saved) (id x : ℕ) (xs : List ℕ) → saved (row q .group) sv ≡ x ∷ xs
-    → (followsId q && isOther (firstHeldId sv) id) ≡ (followsId q && not (eqb x id))
-unfolding firstHeldId
+    → (followsId q && isOther (heldIdIn sv) id) ≡ (followsId q && not (eqb x id))
+unfolding heldIdIn
 other-id q sv id x xs e = go (followsId q) refl
   where
     go : (b : Bool) → followsId q ≡ b → (b && isOther (heldIn headOf (saved C sv)) id) ≡ (b && not (eqb x id))
@@ -94,11 +94,11 @@ other-id q sv id x xs e = go (followsId q) refl
 
 -- a load gives what is held, else the default, by the COB-ID rule
 pub loaded-settled : (q : Parameter) (id : ℕ) (sv : Saved) → 1 ≤ id → id ≤ 127
-    → loaded id sv q ≡ settled q id (firstHeld sv q) (firstHeldId sv)
-unfolding firstHeld settled groupFrom
+    → loaded id sv q ≡ settled q id (heldFor sv q) (heldIdIn sv)
+unfolding heldFor settled groupFrom
 loaded-settled q id sv a b = go (saved (row q .group) sv) refl
   where
-    go : (r : List ℕ) → saved (row q .group) sv ≡ r → loaded id sv q ≡ settled q id (firstHeld sv q) (firstHeldId sv)
+    go : (r : List ℕ) → saved (row q .group) sv ≡ r → loaded id sv q ≡ settled q id (heldFor sv q) (heldIdIn sv)
     go [] e = rw e (loaded-record q id (defaultFor id) sv (default-fits id a b) (rw e (factory-part (row q .group) id a b)))
     go (x ∷ xs) e = rw (e, other-id q sv id x xs e) (unfold loaded in rw e refl)
 
@@ -107,8 +107,8 @@ unfolding settled
 settled-fits q id absent c a b h = default-fits id a b q
 settled-fits q id (kept v) c a b h = cond-case (Fits q) (followsId q && isOther c id) (λ _. default-fits id a b q) (λ _. h)
 
-pub loaded-fits : (q : Parameter) (id : ℕ) (sv : Saved) → 1 ≤ id → id ≤ 127 → FitsHeld q (firstHeld sv q) → Fits q (loaded id sv q)
-loaded-fits q id sv a b h = rw (loaded-settled q id sv a b) (settled-fits q id (firstHeld sv q) (firstHeldId sv) a b h)
+pub loaded-fits : (q : Parameter) (id : ℕ) (sv : Saved) → 1 ≤ id → id ≤ 127 → FitsHeld q (heldFor sv q) → Fits q (loaded id sv q)
+loaded-fits q id sv a b h = rw (loaded-settled q id sv a b) (settled-fits q id (heldFor sv q) (heldIdIn sv) a b h)
 
 -- ---- what is held after a store was written anew
 
@@ -127,24 +127,24 @@ held-record q id f h = go (row q .group) (length-record (row q .group) id f (all
     go A e = held-there (λ (r : List ℕ). field r q) (recordOf A id f) 16 e
 
 module _ (n : List ℕ) (r : Group → List ℕ) (n-ok : okN n ≡ true) (r-ok : (g : Group) → ok g (r g) ≡ true) where
-  pub built-held : (q : Parameter) → firstHeld (read (build n (r C) (r A))) q ≡ heldIn (λ (x : List ℕ). field x q) (r (row q .group))
-  unfolding firstHeld
+  pub built-held : (q : Parameter) → heldFor (read (build n (r C) (r A))) q ≡ heldIn (λ (x : List ℕ). field x q) (r (row q .group))
+  unfolding heldFor
   built-held q = ap (heldIn (λ (x : List ℕ). field x q)) (built-saved n r n-ok r-ok (row q .group))
 
-  pub built-id : firstHeldId (read (build n (r C) (r A))) ≡ heldIn headOf (r C)
-  unfolding firstHeldId
+  pub built-id : heldIdIn (read (build n (r C) (r A))) ≡ heldIn headOf (r C)
+  unfolding heldIdIn
   built-id = ap (heldIn headOf) (built-saved n r n-ok r-ok C)
 
 module _ (gs : Groups) (r : Group → List ℕ) (st : List ℕ) (r-ok : (g : Group) → has gs g ≡ true → ok g (r g) ≡ true) where
   pub renewed-held : (q : Parameter)
-      → firstHeld (read (renewed gs r (read st))) q ≡ cond (has gs (row q .group)) (heldIn (λ (x : List ℕ). field x q) (r (row q .group))) (firstHeld (read st) q)
-  unfolding firstHeld
+      → heldFor (read (renewed gs r (read st))) q ≡ cond (has gs (row q .group)) (heldIn (λ (x : List ℕ). field x q) (r (row q .group))) (heldFor (read st) q)
+  unfolding heldFor
   renewed-held q =
       ap (heldIn (λ (x : List ℕ). field x q)) (renewed-saved gs r st r-ok (row q .group))
       ∙ cond-ap (heldIn (λ (x : List ℕ). field x q)) (has gs (row q .group)) (r (row q .group)) (saved (row q .group) (read st))
 
-  pub renewed-id : firstHeldId (read (renewed gs r (read st))) ≡ cond (has gs C) (heldIn headOf (r C)) (firstHeldId (read st))
-  unfolding firstHeldId
+  pub renewed-id : heldIdIn (read (renewed gs r (read st))) ≡ cond (has gs C) (heldIn headOf (r C)) (heldIdIn (read st))
+  unfolding heldIdIn
   renewed-id =
       ap (heldIn headOf) (renewed-saved gs r st r-ok C)
       ∙ cond-ap (heldIn headOf) (has gs C) (r C) (saved C (read st))

@@ -14,7 +14,7 @@ use Rattle.model.specs.Settings.{row, has, inForce, Now}
 use Rattle.model.specs.Store.{recordN, recordOf, soundN, okN, ok, Saved, read, saved, readdressed}
 use Rattle.model.specs.Changes.{effect, applied, recordsOf, stored}
 use Rattle.model.specs.Parts.{idOf}
-use Rattle.model.specs.History.{activeId, firstHeld, firstHeldId, heldId, value, held}
+use Rattle.model.specs.History.{activeId, heldFor, heldIdIn, heldId, value, held}
 use Rattle.model.specs.Rules.{rules}
 use Rattle.laws.proofs.Tests.{cond-case, cond-ap, and-both, within-is}
 use Rattle.laws.proofs.Image.{read-ok}
@@ -28,10 +28,10 @@ use Rattle.laws.proofs.Allowed.{Allowed, id-ok, pending-ok, pending-bit
 pub record Agrees (sv : Saved) (k : Settings) (id : ℕ) (st : List ℕ) (ds : List Change) : Type 0 where
   pub values : (q : Parameter) → inForce k q ≡ value sv q ds
   pub id-is : id ≡ activeId ds
-  pub helds : (q : Parameter) → firstHeld (read st) q ≡ held sv q ds
-  pub held-id : firstHeldId (read st) ≡ heldId sv ds
+  pub helds : (q : Parameter) → heldFor (read st) q ≡ held sv q ds
+  pub held-id : heldIdIn (read st) ≡ heldId sv ds
   pub fits : AllFit (inForce k)
-  pub fits-held : (q : Parameter) → FitsHeld q (firstHeld (read st) q)
+  pub fits-held : (q : Parameter) → FitsHeld q (heldFor (read st) q)
 
 -- the active ID after a change
 abbrev pub idAfter : Change → ℕ → ℕ
@@ -95,7 +95,7 @@ module _ (sv : Saved) (s : State) (st : List ℕ) (ds : List Change) (h : Agrees
   records-ok : rules s ≡ true → (g : Group) → ok g (recordsOf s g) ≡ true
   records-ok r g = record-ok g (idOf s) (inForce (s .settings)) (id-ok s r) (h .fits) (sound-ok s r g)
 
-  held-after : (c : Change) → Allowed c s → (q : Parameter) → firstHeld (read (stored c s st)) q ≡ held sv q (c ∷ ds)
+  held-after : (c : Change) → Allowed c s → (q : Parameter) → heldFor (read (stored c s st)) q ≡ held sv q (c ∷ ds)
   unfolding stored held value readdressed
   held-after Keep a q = h .helds q
   held-after (Write p v) a q = h .helds q
@@ -105,9 +105,9 @@ module _ (sv : Saved) (s : State) (st : List ℕ) (ds : List Change) (h : Agrees
   held-after (TakeOut gs) a q = renewed-held gs (λ (g : Group). []) st (λ g _. empty-ok g) q ∙ rw (h .helds q) refl
   held-after (Load gs id) a q = h .helds q
   held-after SavePending a q =
-      built-held (recordN (s .core .pending)) (λ (g : Group). saved g (read st)) (pair-ok s a) (λ g. read-ok g st) q ∙ (unfold firstHeld in h .helds q)
+      built-held (recordN (s .core .pending)) (λ (g : Group). saved g (read st)) (pair-ok s a) (λ g. read-ok g st) q ∙ (unfold heldFor in h .helds q)
 
-  held-id-after : (c : Change) → Allowed c s → firstHeldId (read (stored c s st)) ≡ heldId sv (c ∷ ds)
+  held-id-after : (c : Change) → Allowed c s → heldIdIn (read (stored c s st)) ≡ heldId sv (c ∷ ds)
   unfolding stored heldId readdressed recordOf
   held-id-after Keep a = h .held-id
   held-id-after (Write p v) a = h .held-id
@@ -115,7 +115,7 @@ module _ (sv : Saved) (s : State) (st : List ℕ) (ds : List Change) (h : Agrees
   held-id-after (TakeOut gs) a = renewed-id gs (λ (g : Group). []) st (λ g _. empty-ok g) ∙ rw (h .held-id) refl
   held-id-after (Load gs id) a = h .held-id
   held-id-after SavePending a =
-      built-id (recordN (s .core .pending)) (λ (g : Group). saved g (read st)) (pair-ok s a) (λ g. read-ok g st) ∙ (unfold firstHeldId in h .held-id)
+      built-id (recordN (s .core .pending)) (λ (g : Group). saved g (read st)) (pair-ok s a) (λ g. read-ok g st) ∙ (unfold heldIdIn in h .held-id)
 
   fits-held-after : (c : Change) → Allowed c s → (q : Parameter) → FitsHeld q (held sv q (c ∷ ds))
   unfolding held value

@@ -21,9 +21,9 @@ use Rattle.model.specs.Lss.{identityPart, matches, selectionAfter, modeA
 use Rattle.model.specs.Rules.{ruleIds, ruleBits, ruleNmt, ruleRanges, ruleMarks, ruleStart, ruleReported, ruleLss, ruleSync, ruleUpload, rules}
 use Rattle.model.specs.Step.{refusal, powerOnRefusal, changeOf, reply, heard, coreAfter, served, step, powerOn, eventAnswer, powerOnAnswer}
 use Rattle.model.specs.Run.{begun, continued, run}
-use Rattle.model.specs.History.{sdoDeed, lssDeed, resetDeed, serviceDeed, deed, activeId, deeds, firstHeld, firstHeldId, heldId, settled, value}
+use Rattle.model.specs.History.{sdoDeed, lssDeed, resetDeed, serviceDeed, deed, activeId, deeds, heldFor, heldIdIn, heldId, settled, value}
 use Rattle.model.specs.Program.{hexDigit, digits, frameText, refusalText, lineText, logText, frameCount, endLine, records, logOf, program}
 
 unfoldable pub everything : ℕ
-unfolding add sub mul div ofInt ofBits toBits firstHit le unle part sameBytes shifted shiftedBy added byteIn crcFrom pvOf sizeOf limited integerAt judgeReal overlay firstCob secondCob rows bytesOf judge inRanges signs valid sound unmarks recordOf placeOf field soundN soundRecord okN ok placeIn packed placed build lengthAt nIn cIn aIn isGood read factory groupFrom loaded addressFrom renewed readdressed errorRegister find sizeIn sdoRequest lssRequest remoteService frameService service effect applied stored timerOf tpdoFrame srdoFirst srdoSecond emcyFrame transmission heartbeatDue tpdoDue srdoDue ticked tickFrames synced syncFrames answersRemote remoteAnswered remoteFrames emcyDue lssLeft startObeyed start stop obeyed commanded resetAsked nmtChange readied cleared autoStart reset sizeFor falseMark writeCode checkedWrite sdoChange segmentCommand segmentSent openIndex segmentCode segmentReply sdoReply uploadAfter identityPart matches selectionAfter modeAfter lssAfter pendingAfter lssChange lssReply ruleIds ruleBits ruleNmt ruleRanges ruleMarks ruleStart ruleReported ruleLss ruleSync ruleUpload rules refusal powerOnRefusal changeOf reply heard coreAfter served step powerOn eventAnswer powerOnAnswer begun continued run sdoDeed lssDeed resetDeed serviceDeed deed activeId deeds firstHeld firstHeldId heldId settled value hexDigit digits frameText refusalText lineText logText frameCount endLine records logOf program
+unfolding add sub mul div ofInt ofBits toBits firstHit le unle part sameBytes shifted shiftedBy added byteIn crcFrom pvOf sizeOf limited integerAt judgeReal overlay firstCob secondCob rows bytesOf judge inRanges signs valid sound unmarks recordOf placeOf field soundN soundRecord okN ok placeIn packed placed build lengthAt nIn cIn aIn isGood read factory groupFrom loaded addressFrom renewed readdressed errorRegister find sizeIn sdoRequest lssRequest remoteService frameService service effect applied stored timerOf tpdoFrame srdoFirst srdoSecond emcyFrame transmission heartbeatDue tpdoDue srdoDue ticked tickFrames synced syncFrames answersRemote remoteAnswered remoteFrames emcyDue lssLeft startObeyed start stop obeyed commanded resetAsked nmtChange readied cleared autoStart reset sizeFor falseMark writeCode checkedWrite sdoChange segmentCommand segmentSent openIndex segmentCode segmentReply sdoReply uploadAfter identityPart matches selectionAfter modeAfter lssAfter pendingAfter lssChange lssReply ruleIds ruleBits ruleNmt ruleRanges ruleMarks ruleStart ruleReported ruleLss ruleSync ruleUpload rules refusal powerOnRefusal changeOf reply heard coreAfter served step powerOn eventAnswer powerOnAnswer begun continued run sdoDeed lssDeed resetDeed serviceDeed deed activeId deeds heldFor heldIdIn heldId settled value hexDigit digits frameText refusalText lineText logText frameCount endLine records logOf program
 everything = 0

@@ -27,6 +27,7 @@ use Rattle.model.specs.Dictionary.{find}
 use Rattle.model.specs.Service.{service}
 use Rattle.model.specs.Nmt.{isFor, resetNodeCommand, resetCommunicationCommand}
 use Rattle.model.specs.Sdo.{asked}
+use Rattle.model.specs.Step.{done}
 use Rattle.model.specs.Run.{Line, powered, called}
 
 -- ---- The deed of a line: what was done, by the request and the first frame that followed it
@@ -84,10 +85,10 @@ serviceDeed active (Remote to) fs = Keep
 serviceDeed active (Sdo to r) fs = byFirst (sdoDeed to r) fs
 serviceDeed active (Lss r) fs = byFirst (lssDeed r) fs
 
--- the deed of a line, where this ID is active: a refused call did nothing, and the power-on is a load of both groups
+-- the deed of a line, where this ID is active: a call that was refused did nothing, and the power-on is a load of both groups
 unfoldable pub deed : ℕ → Line → Change
-deed active (powered room number sent) = Load Both (bootId sent)
-deed active (called event room number sent) = cond (eqb number 0) (serviceDeed active (service event) sent) Keep
+deed active (powered room number sent) = cond (eqb number done) (Load Both (bootId sent)) Keep
+deed active (called event room number sent) = cond (eqb number done) (serviceDeed active (service event) sent) Keep
 
 -- the active ID is the last load's
 unfoldable pub activeId : List Change → ℕ
@@ -116,20 +117,20 @@ abbrev pub heldIn : {X : Type 0} → (List ℕ → X) → List ℕ → Held X
 heldIn f [] = absent
 heldIn f (b ∷ bs) = kept (f (b ∷ bs))
 
--- for a parameter in a first store, and for the ID that its C was saved with
-unfoldable pub firstHeld : Saved → Parameter → Held Value
-firstHeld sv q = heldIn (λ (r : List ℕ). field r q) (saved (row q .group) sv)
+-- what is saved for a parameter, and the ID that C was saved with
+unfoldable pub heldFor : Saved → Parameter → Held Value
+heldFor sv q = heldIn (λ (r : List ℕ). field r q) (saved (row q .group) sv)
 
 abbrev pub headOf : List ℕ → ℕ
 headOf [] = 0
 headOf (b ∷ bs) = b
 
-unfoldable pub firstHeldId : Saved → Held ℕ
-firstHeldId sv = heldIn headOf (saved C sv)
+unfoldable pub heldIdIn : Saved → Held ℕ
+heldIdIn sv = heldIn headOf (saved C sv)
 
 -- the ID that is held with C: the active one at its last save
 unfoldable pub heldId : Saved → List Change → Held ℕ
-heldId sv [] = firstHeldId sv
+heldId sv [] = heldIdIn sv
 heldId sv (Keep ∷ ds) = heldId sv ds
 heldId sv (Write p v ∷ ds) = heldId sv ds
 heldId sv (Save gs ∷ ds) = cond (has gs C) (kept (activeId ds)) (heldId sv ds)
@@ -162,7 +163,7 @@ unfoldable mutual
 
   -- what the store holds for q: its value at the last save of its group, nothing after a load word, and what was saved at first before either
   pub held : Saved → Parameter → List Change → Held Value
-  held sv q [] = firstHeld sv q
+  held sv q [] = heldFor sv q
   held sv q (Keep ∷ ds) = held sv q ds
   held sv q (Write p v ∷ ds) = held sv q ds
   held sv q (Save gs ∷ ds) = cond (has gs (row q .group)) (kept (value sv q ds)) (held sv q ds)
