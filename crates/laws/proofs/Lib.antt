@@ -23,6 +23,7 @@ pub mod CoreRules
 pub mod RulesKept
 pub mod StoreSize
 -- safety pairs; nothing is written by halves; one answer
+pub mod Ids
 pub mod Pairs
 pub mod PairsInLog
 pub mod HalfWrites

@@ -51,6 +51,7 @@ use Rattle.model.specs.Lss.{answered, lssReply}
 use Rattle.model.specs.Rules.{rules}
 use Rattle.model.specs.Step.{done, refusal, powerOnRefusal, changeOf, reply, booted, heard, coreAfter, changed, reports, served, step, unborn, powerOn}
 use Rattle.model.specs.Run.{Call, Line, sentIn, World, begun, continued}
+use Rattle.laws.proofs.Ids.{read-id, write-id, segment-id}
 use Rattle.laws.proofs.Tests.{cond-case, and-l, and-r, and-false, implies, within-is}
 use Rattle.laws.proofs.Loading.{address-ok}
 use Rattle.laws.proofs.Allowed.{id-ok, sound-ok, change-allowed}
@@ -122,23 +123,6 @@ module _ (v : Service) (k : Settings) (fv : Fv) where
   -- SDO
   reply-above : (s : State) (id : ℕ) → id ≡ sdoReplies + idOf s → within 0x101 0x180 id ≡ false
   reply-above s id e = above id (omega arith)
-
-  read-id : (f : Found) (index sub : ℕ) (s : State) → readFrom f index sub s .id ≡ sdoReplies + idOf s
-  read-id NoObject index sub s = refl
-  read-id NoSub index sub s = refl
-  read-id (At e) index sub s = go (contentOf e s)
-    where
-      go : (c : Content) → uploaded c index sub s .id ≡ sdoReplies + idOf s
-      go Text = refl
-      go (Plain x) = refl
-
-  write-id : (c : Checked) (index sub : ℕ) (s : State) → writeReply c index sub s .id ≡ sdoReplies + idOf s
-  write-id (Refused code) index sub s = refl
-  write-id (Accepted c) index sub s = refl
-
-  segment-id : (toggle : ℕ) (s : State) → segmentReply toggle s .id ≡ sdoReplies + idOf s
-  unfolding segmentReply
-  segment-id toggle s = cond-case (λ (f : Frame). f .id ≡ sdoReplies + idOf s) (sendsSegment toggle (s .core .upload)) (λ _. refl) (λ _. refl)
 
   safe-sdo : (r : SdoRequest) (s : State) → Safe v k fv (sdoReply r s)
   unfolding sdoReply
