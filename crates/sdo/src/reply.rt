@@ -1,5 +1,7 @@
 // The frames of the replies: eight bytes on the node's own CAN-ID.
 use dictionary::content::content;
+use dictionary::write::NO_OBJECT;
+use dictionary::write::NO_SUB;
 use model::Checked;
 use model::Content;
 use model::Found;
@@ -14,8 +16,8 @@ ghost use Prim.Native.Nat.{_≤_};
 ghost use Rattle.model.specs.Parts.{idOf};
 ghost use Rattle.model.specs.Sdo as Sdo;
 
-// A command, index and sub, and four bytes.
-fn replied(command: u8, index: u16, sub: u8, four: [u8; 4], s: State) -> Frame
+// A command byte, index and sub, then four bytes.
+fn headed(command: u8, index: u16, sub: u8, four: [u8; 4], s: State) -> Frame
     requires { ⌜ idOf s ≤ 127 ⌝ }
     ensures { λ r. ⌜ r ≡ Sdo.replied s (Sdo.headed command index sub four) ⌝ }
 {
@@ -33,34 +35,38 @@ fn replied(command: u8, index: u16, sub: u8, four: [u8; 4], s: State) -> Frame
     }
 }
 
+// ---- Writes and aborts
+
 // An accepted write.
 fn acknowledged(index: u16, sub: u8, s: State) -> Frame
     requires { ⌜ idOf s ≤ 127 ⌝ }
     ensures { λ r. ⌜ r ≡ Sdo.acknowledged index sub s ⌝ }
 {
-    replied(0x60, index, sub, [0, 0, 0, 0], s)
+    headed(0x60, index, sub, [0, 0, 0, 0], s)
 }
 
-// An abort.
+// An abort, with its code.
 pub fn aborted(index: u16, sub: u8, code: u32, s: State) -> Frame
     requires { ⌜ idOf s ≤ 127 ⌝ }
     ensures { λ r. ⌜ r ≡ Sdo.aborted index sub code s ⌝ }
 {
-    replied(0x80, index, sub, word(code), s)
+    headed(0x80, index, sub, word(code), s)
 }
 
-// A write.
-pub fn write_reply(c: Checked, index: u16, sub: u8, s: State) -> Frame
+// The reply to a write that was checked.
+pub fn write_reply(checked: Checked, index: u16, sub: u8, s: State) -> Frame
     requires { ⌜ idOf s ≤ 127 ⌝ }
-    ensures { λ r. ⌜ r ≡ Sdo.writeReply c index sub s ⌝ }
+    ensures { λ r. ⌜ r ≡ Sdo.writeReply checked index sub s ⌝ }
 {
-    match c {
+    match checked {
         Checked::Refused(code) => aborted(index, sub, code, s),
         Checked::Accepted(_) => acknowledged(index, sub, s),
     }
 }
 
-// The command byte of a value that goes in the reply itself: it tells the size.
+// ---- Reads
+
+// The command byte of a value that goes in the reply itself: it tells how many of the four bytes are the value's.
 fn expedited(k: Kind) -> u8
     ensures { λ r. ⌜ r ≡ Sdo.expedited k ⌝ }
 {
@@ -73,28 +79,28 @@ fn expedited(k: Kind) -> u8
     }
 }
 
-// The beginning of an upload: the name's length, since it goes by segments, or the value.
-fn uploaded(c: Content, index: u16, sub: u8, s: State) -> Frame
+// The reply that begins an upload: the name's length, since the name goes by segments, or the value.
+fn uploaded(what: Content, index: u16, sub: u8, s: State) -> Frame
     requires { ⌜ idOf s ≤ 127 ⌝ }
-    ensures { λ r. ⌜ r ≡ Sdo.uploaded c index sub s ⌝ }
+    ensures { λ r. ⌜ r ≡ Sdo.uploaded what index sub s ⌝ }
 {
-    match c {
-        Content::Text => replied(0x41, index, sub, [15, 0, 0, 0], s),
+    match what {
+        Content::Text => headed(0x41, index, sub, [15, 0, 0, 0], s),
         Content::Plain(v) => {
             let command = expedited(kind_of(v));
-            replied(command, index, sub, encode(v), s)
+            headed(command, index, sub, encode(v), s)
         }
     }
 }
 
-// A read.
+// The reply to a read of what was found. A read has only the first two of the checks.
 pub fn read_reply(found: Found, index: u16, sub: u8, s: State) -> Frame
     requires { ⌜ (idOf s ≤ 127) × (s .settings .application .digits ≤ 4) ⌝ }
     ensures { λ r. ⌜ r ≡ Sdo.readFrom found index sub s ⌝ }
 {
     match found {
-        Found::NoObject => aborted(index, sub, 0x06020000, s),
-        Found::NoSub => aborted(index, sub, 0x06090011, s),
+        Found::NoObject => aborted(index, sub, NO_OBJECT, s),
+        Found::NoSub => aborted(index, sub, NO_SUB, s),
         Found::At(e) => uploaded(content(e, s), index, sub, s),
     }
 }

@@ -1,4 +1,4 @@
-// The upload of the name, `CRADLE-PRESSURE`, in three segments.
+// The upload of the name, `CRADLE-PRESSURE`, in three segments of seven bytes.
 use super::reply::aborted;
 use model::Entry;
 use model::Found;
@@ -8,12 +8,21 @@ use model::Upload;
 ghost use mathlib.Core.Path.{_≡_};
 ghost use mathlib.Core.Bool.{true};
 ghost use mathlib.Core.List.{_∷_};
-ghost use Prim.Native.Nat.{_+_, _≤_};
-ghost use Rattle.model.specs.Frames.{sdoReplies, full};
+ghost use Prim.Native.Nat.{_≤_};
 ghost use Rattle.model.specs.Parts.{idOf, noUpload};
 ghost use Rattle.model.specs.Rules.{ruleUpload};
 ghost use Rattle.model.specs.Sdo as Sdo;
-ghost use Rattle.sdo.specs.Open.{AtSegment};
+ghost use Rattle.sdo.specs.Open.{atSegment};
+
+// The abort codes: a toggle that is not the upload's, and a command that is not served.
+const WRONG_TOGGLE: u32 = 0x05030000;
+
+pub const UNKNOWN_COMMAND: u32 = 0x05040001;
+
+// The object that an open upload reads.
+const NAME_INDEX: u16 = 0x1008;
+
+// ---- Where an upload stands
 
 // No upload is open.
 pub fn no_upload() -> Upload
@@ -26,13 +35,11 @@ pub fn no_upload() -> Upload
     }
 }
 
-// An upload of the name opens one; any other initiate drops an open one.
+// A read of the name opens an upload.
 pub fn opened(found: Found) -> Upload
     ensures { λ r. ⌜ r ≡ Sdo.opened found ⌝ }
 {
     match found {
-        Found::NoObject => no_upload(),
-        Found::NoSub => no_upload(),
         Found::At(e) => match e {
             Entry::Name => Upload {
                 busy: true,
@@ -41,59 +48,13 @@ pub fn opened(found: Found) -> Upload
             },
             _ => no_upload(),
         },
-    }
-}
-
-// The segment that an upload stands before. The first byte has the toggle, the unused bytes and the mark of the last.
-fn segment(s: State) -> Frame
-    requires { ⌜ (idOf s ≤ 127) × AtSegment (s .core .upload) ⌝ }
-    ensures { λ r. ⌜ r ≡ Sdo.replied s (Sdo.segmentCommand (s .core .upload) ∷ Sdo.segmentBytes (s .core .upload)) ⌝ }
-{
-    let id = 0x580 + s.core.active.id as u16;
-    let at = s.core.upload.at;
-    match at {
-        0 => Frame {
-            id,
-            len: 8,
-            d0: 0x00,
-            d1: b'C',
-            d2: b'R',
-            d3: b'A',
-            d4: b'D',
-            d5: b'L',
-            d6: b'E',
-            d7: b'-',
-        },
-        7 => Frame {
-            id,
-            len: 8,
-            d0: 0x10,
-            d1: b'P',
-            d2: b'R',
-            d3: b'E',
-            d4: b'S',
-            d5: b'S',
-            d6: b'U',
-            d7: b'R',
-        },
-        _ => Frame {
-            id,
-            len: 8,
-            d0: 0x0d,
-            d1: b'E',
-            d2: 0,
-            d3: 0,
-            d4: 0,
-            d5: 0,
-            d6: 0,
-            d7: 0,
-        },
+        _ => no_upload(),
     }
 }
 
 // The upload after its segment: the last closes it.
 pub fn segment_sent(u: Upload) -> Upload
-    requires { ⌜ AtSegment u ⌝ }
+    requires { ⌜ atSegment u ≡ true ⌝ }
     ensures { λ r. ⌜ r ≡ Sdo.segmentSent u ⌝ }
 {
     let at = u.at;
@@ -112,24 +73,73 @@ pub fn segment_sent(u: Upload) -> Upload
     }
 }
 
-// The reply to a segment request: the segment, or an abort where the toggle is wrong or no upload is open.
+// ---- Segments
+
+// A segment is sent where an upload is open and its toggle is the one asked for.
+pub fn sends_segment(toggle: u8, u: Upload) -> bool
+    ensures { λ r. ⌜ r ≡ Sdo.sendsSegment toggle u ⌝ }
+{
+    u.busy & (toggle == u.toggle)
+}
+
+// A command byte and seven bytes.
+fn seven(command: u8, bytes: [u8; 7], s: State) -> Frame
+    requires { ⌜ idOf s ≤ 127 ⌝ }
+    ensures { λ r. ⌜ r ≡ Sdo.replied s (command ∷ bytes) ⌝ }
+{
+    Frame {
+        id: 0x580 + s.core.active.id as u16,
+        len: 8,
+        d0: command,
+        d1: bytes[0],
+        d2: bytes[1],
+        d3: bytes[2],
+        d4: bytes[3],
+        d5: bytes[4],
+        d6: bytes[5],
+        d7: bytes[6],
+    }
+}
+
+// The segment that is next. Its command byte is 10h for a toggle of 1, plus twice the number of unused bytes, plus 1 for the last.
+fn segment(s: State) -> Frame
+    requires { ⌜ (idOf s ≤ 127) × (atSegment (s .core .upload) ≡ true) ⌝ }
+    ensures { λ r. ⌜ r ≡ Sdo.replied s (Sdo.segmentCommand (s .core .upload) ∷ Sdo.segmentBytes (s .core .upload)) ⌝ }
+{
+    let at = s.core.upload.at;
+    match at {
+        0 => seven(0x00, [b'C', b'R', b'A', b'D', b'L', b'E', b'-'], s),
+        7 => seven(0x10, [b'P', b'R', b'E', b'S', b'S', b'U', b'R'], s),
+        _ => seven(0x0d, [b'E', 0, 0, 0, 0, 0, 0], s),
+    }
+}
+
+// The index that an abort names for a request that names none: the open upload's, or 0000h.
+pub fn open_index(u: Upload) -> u16
+    ensures { λ r. ⌜ r ≡ Sdo.openIndex u ⌝ }
+{
+    if u.busy { NAME_INDEX } else { 0 }
+}
+
+// The abort code where no segment is sent: the toggle is wrong, or no upload is open.
+fn segment_code(u: Upload) -> u32
+    ensures { λ r. ⌜ r ≡ Sdo.segmentCode u ⌝ }
+{
+    if u.busy {
+        WRONG_TOGGLE
+    } else {
+        UNKNOWN_COMMAND
+    }
+}
+
+// The reply to a segment request: the segment or an abort.
 pub fn segment_reply(toggle: u8, s: State) -> Frame
     requires { ⌜ (idOf s ≤ 127) × (ruleUpload s ≡ true) ⌝ }
     ensures { λ r. ⌜ r ≡ Sdo.segmentReply toggle s ⌝ }
 {
     let u = s.core.upload;
-    if !u.busy {
-        return aborted(0, 0, 0x05040001, s);
-    }
-    if toggle == u.toggle {
+    if sends_segment(toggle, u) {
         return segment(s);
     }
-    aborted(0x1008, 0, 0x05030000, s)
-}
-
-// The index that an abort names for a request that names none.
-pub fn open_index(u: Upload) -> u16
-    ensures { λ r. ⌜ r ≡ Sdo.openIndex u ⌝ }
-{
-    if u.busy { 0x1008 } else { 0 }
+    aborted(open_index(u), 0, segment_code(u), s)
 }
