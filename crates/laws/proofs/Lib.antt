@@ -28,3 +28,5 @@ pub mod Pairs
 pub mod PairsInLog
 pub mod HalfWrites
 pub mod OneAnswer
+-- wrong nodes, and the run that finds each out
+pub mod WrongNodes
