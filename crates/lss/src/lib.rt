@@ -8,12 +8,13 @@ use model::LssRequest;
 use model::Reply;
 use model::Selection;
 use model::State;
+use wire::address::is_bit_index;
+use wire::address::is_node_id;
 ghost use mathlib.Core.Path.{_≡_};
 ghost use mathlib.Core.List.{[], _∷_};
 ghost use Prim.Native.Nat.{_≤_};
 ghost use Rattle.model.specs.Bytes.{le};
 ghost use Rattle.model.specs.Frames.{framesOf};
-ghost use Rattle.model.specs.Store.{nodeId};
 ghost use Rattle.model.specs.Lss as Lss;
 ghost use Rattle.lss.specs.Told.{told, partOf};
 
@@ -107,18 +108,11 @@ pub fn lss_after(request: LssRequest, s: State) -> Selection
 
 // ---- What is asked in configuration
 
-// A Node-ID.
-fn node_id(id: u8) -> bool
-    ensures { λ r. ⌜ r ≡ nodeId id ⌝ }
-{
-    (1 <= id) & (id <= 127)
-}
-
-// A bit index of the only table there is: 1 and 5 are reserved.
+// A bit index of the only table there is.
 fn bit_in_table(table: u8, bit: u8) -> bool
     ensures { λ r. ⌜ r ≡ Lss.bitInTable table bit ⌝ }
 {
-    (table == 0) & ((bit <= 8) & ((bit != 1) & (bit != 5)))
+    (table == 0) & is_bit_index(bit)
 }
 
 // The pending pair, with another ID or another bit index where that is allowed.
@@ -129,7 +123,7 @@ pub fn pending_after(request: LssRequest, s: State) -> Address
     let on = s.core.lss.configuration;
     match request {
         LssRequest::SetNodeId(id) => {
-            if on & node_id(id) {
+            if on & is_node_id(id) {
                 pending.id = id;
             }
             pending
@@ -231,7 +225,7 @@ pub fn lss_reply(request: LssRequest, s: State) -> Reply
     let on = s.core.lss.configuration;
     match request {
         LssRequest::Select { part, number } => tell(selects(part, number, s), 0x44, 0),
-        LssRequest::SetNodeId(id) => tell(on, 0x11, error_unless(node_id(id))),
+        LssRequest::SetNodeId(id) => tell(on, 0x11, error_unless(is_node_id(id))),
         LssRequest::SetBitIndex { table, bit } => tell(
             on,
             0x13,

@@ -9,27 +9,15 @@ use model::SrdoSettings;
 use model::TpdoSettings;
 use settings::validity::sound_a;
 use settings::validity::sound_c;
+use wire::address::is_bit_index;
+use wire::address::is_node_id;
 use wire::bytes::byte;
 ghost use mathlib.Core.Path.{_≡_};
 ghost use Rattle.model.specs.declared.Group.the-variants as Group;
 ghost use Rattle.model.specs.Settings as Table;
-ghost use Rattle.model.specs.Store.{nodeId, bitIndex, soundN, okN, soundRecord, ok};
+ghost use Rattle.model.specs.Store.{soundN, okN, soundRecord, ok};
 
 // ---- N
-
-// A Node-ID.
-pub fn is_node_id(n: u8) -> bool
-    ensures { λ r. ⌜ r ≡ nodeId n ⌝ }
-{
-    (1 <= n) & (n <= 127)
-}
-
-// A bit index of the table of bit rates: 1 and 5 are reserved.
-pub fn is_bit_index(n: u8) -> bool
-    ensures { λ r. ⌜ r ≡ bitIndex n ⌝ }
-{
-    (n <= 8) & ((n != 1) & (n != 5))
-}
 
 // The contents of an N.
 fn sound_n(r: &[u8]) -> bool

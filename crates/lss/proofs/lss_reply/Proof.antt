@@ -17,8 +17,8 @@ tell-requires c κs = search needs
 enum-known-request-2 : tie.Need-enum-known-request-2
 enum-known-request-2 c = search needs
 
-node-id-requires : tie.Need-node-id-requires
-node-id-requires c κs = search needs
+is-node-id-requires : tie.Need-is-node-id-requires
+is-node-id-requires c κs = search needs
 
 error-unless-requires : tie.Need-error-unless-requires
 error-unless-requires c κs = search needs
@@ -80,7 +80,7 @@ returns c = rw (c .tell .ensures, c .before .selects .ensures, c .before .before
 
 returns-2 : tie.Need-returns-2
 unfolding Lss.lssReply
-returns-2 c = rw (c .tell2 .ensures, c .before .error-unless .ensures, c .before .before .node-id .ensures, c .before .before .before .before .request2 .given .1)
+returns-2 c = rw (c .tell2 .ensures, c .before .error-unless .ensures, c .before .before .is-node-id .ensures, c .before .before .before .before .request2 .given .1)
 
 returns-3 : tie.Need-returns-3
 unfolding Lss.lssReply
@@ -114,7 +114,7 @@ lss-reply-spec =
     selects-requires
     tell-requires
     enum-known-request-2
-    node-id-requires
+    is-node-id-requires
     error-unless-requires
     tell-requires-2
     enum-known-request-3

@@ -31,8 +31,8 @@ others OtherLss s h = refl
 enum-known-request : tie.Need-enum-known-request
 enum-known-request c = search needs
 
-node-id-requires : tie.Need-node-id-requires
-node-id-requires c κs = search needs
+is-node-id-requires : tie.Need-is-node-id-requires
+is-node-id-requires c κs = search needs
 
 enum-known-request-2 : tie.Need-enum-known-request-2
 enum-known-request-2 c = search needs
@@ -42,11 +42,11 @@ bit-in-table-requires c κs = search needs
 
 returns : tie.Need-returns
 unfolding Lss.pendingAfter
-returns c = rw (c .before .before .before .request .given .1, ← (c .before .node-id .ensures), c .if1 .taken)
+returns c = rw (c .before .before .before .request .given .1, ← (c .before .is-node-id .ensures), c .if1 .taken)
 
 returns-2 : tie.Need-returns-2
 unfolding Lss.pendingAfter
-returns-2 c = rw (c .before .before .before .request .given .1, ← (c .before .node-id .ensures), c .if1 .left)
+returns-2 c = rw (c .before .before .before .request .given .1, ← (c .before .is-node-id .ensures), c .if1 .left)
 
 returns-3 : tie.Need-returns-3
 unfolding Lss.pendingAfter
@@ -64,7 +64,7 @@ pending-after-spec =
     tie.close
     (tie.spec
     enum-known-request
-    node-id-requires
+    is-node-id-requires
     enum-known-request-2
     bit-in-table-requires
     returns
