@@ -47,7 +47,7 @@ enum-told-4 c = search needs
 
 returns-2 : tie.Need-returns-2
 unfolding Sdo.uploadAfter
-returns-2 c = rw (c .before .before .no-upload .ensures, c .enum-told .given .1)
+returns-2 c = rw (c .enum-told .given .1) (c .before .before .no-upload .ensures)
 
 returns-3 : tie.Need-returns-3
 unfolding Sdo.uploadAfter
@@ -59,15 +59,15 @@ returns-4 c = rw (c .before .before .before .before .before .no-upload .ensures,
 
 returns-5 : tie.Need-returns-5
 unfolding Sdo.uploadAfter
-returns-5 c = rw (c .before .before .no-upload .ensures, c .enum-told2 .given .1)
+returns-5 c = rw (c .enum-told2 .given .1) (c .before .before .no-upload .ensures)
 
 returns-6 : tie.Need-returns-6
 unfolding Sdo.uploadAfter
-returns-6 c = rw (c .before .before .no-upload .ensures, c .enum-told3 .given .1)
+returns-6 c = rw (c .enum-told3 .given .1) (c .before .before .no-upload .ensures)
 
 returns-7 : tie.Need-returns-7
 unfolding Sdo.uploadAfter
-returns-7 c = rw (c .before .before .no-upload .ensures, c .enum-told4 .given .1)
+returns-7 c = rw (c .enum-told4 .given .1) (c .before .before .no-upload .ensures)
 
 pub upload-after-spec : {M : Type 1} → statement M
 upload-after-spec =
