@@ -16,6 +16,7 @@ use Rattle.model.specs.Frames.{overlay}
 use Rattle.model.specs.Step.{done, outputSize, refusal, powerOnRefusal, step, powerOn, zeroStore, Answered, given, refused, eventAnswer, powerOnAnswer}
 use Rattle.model.specs.Run.{Call, Line, powered, called, sentIn, World, after, begun, continued}
 use Rattle.model.specs.Program.{lineText}
+use Rattle.node.specs.Gives.{Gives}
 use Rattle.text.specs.Written.{Written}
 use Rattle.text.specs.Sent.{framesIn, added, Shown}
 use Rattle.text.proofs.Sent.{line-added}
@@ -30,27 +31,21 @@ shown : (fs : List Frame) → Ids fs → Shown fs
 shown [] h = tt
 shown (f ∷ fs) h = let k = h .0 in (omega arith, shown fs (h .1))
 
--- a call's answer, its output and its store, as the definition has them
-pub record Given (a : Answered) (r : Answer) (ys zs : List ℕ) : Type 0 where
-  pub answer : r ≡ a .answer
-  pub output : ys ≡ a .output
-  pub store : zs ≡ a .store
-
 overlay-none : (xs : List ℕ) → xs ≡ overlay [] xs
 unfolding overlay
 overlay-none xs = refl
 
 -- an event
 pub turn-told : (e : List ℕ) (n : ℕ) (s : State) (st out : List ℕ) → length out ≡ outputSize → {at place : ℕ} {xs ys os zs : List ℕ} {r : Answer}
-    → Given (eventAnswer e s out st) r os zs → Written 168 (added n (r .number) (framesIn (r .count) os)) at xs ys place
+    → Gives (eventAnswer e s out st) r os zs → Written 168 (added n (r .number) (framesIn (r .count) os)) at xs ys place
     → Turned e n s st at xs ys zs (record { state = r .state; at = place; frames = r .count })
 unfolding eventAnswer continued
 turn-told e n s st out long {at} {place} {xs} {ys} {os} {zs} {r} g w =
     go (eqb (refusal e s outputSize (length st)) done) refl
-    (subst (λ (m : ℕ). Given (cond (eqb (refusal e s m (length st)) done) (given (step e s st) out) (refused (refusal e s m (length st)) s out st)) r os zs) long g)
+    (subst (λ (m : ℕ). Gives (cond (eqb (refusal e s m (length st)) done) (given (step e s st) out) (refused (refusal e s m (length st)) s out st)) r os zs) long g)
   where
     go : (b : Bool) → eqb (refusal e s outputSize (length st)) done ≡ b
-        → Given (cond b (given (step e s st) out) (refused (refusal e s outputSize (length st)) s out st)) r os zs
+        → Gives (cond b (given (step e s st) out) (refused (refusal e s outputSize (length st)) s out st)) r os zs
         → Turned e n s st at xs ys zs (record { state = r .state; at = place; frames = r .count })
     go true h k =
         let l = called e outputSize done (step e s st .sent) in
@@ -75,15 +70,15 @@ turn-told e n s st out long {at} {place} {xs} {ys} {os} {zs} {r} g w =
 
 -- the power-on
 pub begin-told : (i : Identity) (st out : List ℕ) → length out ≡ outputSize → {place : ℕ} {xs ys os zs : List ℕ} {r : Answer}
-    → Given (powerOnAnswer i out st) r os zs → Written 168 (added 0 (r .number) (framesIn (r .count) os)) 0 xs ys place
+    → Gives (powerOnAnswer i out st) r os zs → Written 168 (added 0 (r .number) (framesIn (r .count) os)) 0 xs ys place
     → Begins i st xs ys (record { state = r .state; at = place; frames = r .count })
 unfolding powerOnAnswer begun
 begin-told i st out long {place} {xs} {ys} {os} {zs} {r} g w =
     go (eqb (powerOnRefusal outputSize (length st)) done) refl
-    (subst (λ (m : ℕ). Given (cond (eqb (powerOnRefusal m (length st)) done) (given (powerOn i st) out) (refused (powerOnRefusal m (length st)) (powerOn i zeroStore .state) out st)) r os zs) long g)
+    (subst (λ (m : ℕ). Gives (cond (eqb (powerOnRefusal m (length st)) done) (given (powerOn i st) out) (refused (powerOnRefusal m (length st)) (powerOn i zeroStore .state) out st)) r os zs) long g)
   where
     go : (b : Bool) → eqb (powerOnRefusal outputSize (length st)) done ≡ b
-        → Given (cond b (given (powerOn i st) out) (refused (powerOnRefusal outputSize (length st)) (powerOn i zeroStore .state) out st)) r os zs
+        → Gives (cond b (given (powerOn i st) out) (refused (powerOnRefusal outputSize (length st)) (powerOn i zeroStore .state) out st)) r os zs
         → Begins i st xs ys (record { state = r .state; at = place; frames = r .count })
     go true h k =
         let l = powered outputSize done (powerOn i st .sent) in
