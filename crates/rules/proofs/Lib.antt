@@ -1,0 +1,2 @@
+-- what the state rules give
+pub mod Fits
