@@ -27,9 +27,9 @@ ghost use Rattle.model.specs.Sdo as Sdo;
 ghost use Rattle.dictionary.specs.Checks.{firstCode, answered};
 
 // The abort codes.
-const NO_OBJECT: u32 = 0x06020000;
+pub const NO_OBJECT: u32 = 0x06020000;
 
-const NO_SUB: u32 = 0x06090011;
+pub const NO_SUB: u32 = 0x06090011;
 
 const READ_ONLY: u32 = 0x06010002;
 
