@@ -1,11 +1,14 @@
 // The state and the store after a change. Nothing else touches the saved parameters or the store.
+use super::ask::silent;
 use super::heard::heard;
 use model::Change;
 use model::Core;
 use model::Groups;
+use model::Reply;
 use model::Service;
 use model::Settings;
 use model::State;
+use nmt::boot_up;
 use nmt::reset;
 use settings::change::take_out;
 use settings::change::write;
@@ -17,6 +20,7 @@ use time::restarts::restart;
 use time::restarts::timer_of;
 ghost use mathlib.Core.Path.{_≡_};
 ghost use lib.ListN.{length};
+ghost use Rattle.model.specs.Frames.{framesOf};
 ghost use Rattle.model.specs.Store.{read};
 ghost use Rattle.model.specs.Changes.{applied, stored};
 ghost use Rattle.model.specs.Nmt as Nmt;
@@ -74,6 +78,20 @@ pub fn changed(c: Change, v: Service, s: State, store: &[u8]) -> State
         identity,
         settings,
         core,
+    }
+}
+
+// The boot-up where it is a load, with the ID that becomes active.
+pub fn booted(c: Change) -> Reply
+    requires { ⌜ Suits c ⌝ }
+    ensures { λ r. ⌜ framesOf r ≡ Step.booted c ⌝ }
+{
+    match c {
+        Change::Load(_, id) => {
+            let frame = boot_up(id);
+            Reply { send: true, frame }
+        }
+        _ => silent(),
     }
 }
 
