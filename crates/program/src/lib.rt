@@ -39,8 +39,8 @@ pub fn begin(text: &mut [u8], store: &[u8]) -> Turn
 }
 
 // Record number n, whole or short: its lines go behind the text so far.
-pub fn turn(
-    record: &[u8],
+pub fn call(
+    bytes: &[u8],
     n: u64,
     state: State,
     text: &mut [u8],
@@ -48,10 +48,10 @@ pub fn turn(
     store: &mut [u8],
 ) -> Turn
     requires { ⌜ at + 168 ≤ length (now text) ⌝ }
-    ensures { λ r. ⌜ Turned (now (record .entry)) n state (now (store .entry)) at (now (text .entry)) (now (text .exit)) (now (store .exit)) r ⌝ }
+    ensures { λ r. ⌜ Turned (now (bytes .entry)) n state (now (store .entry)) at (now (text .entry)) (now (text .exit)) (now (store .exit)) r ⌝ }
 {
     let mut out = [0u8; 48];
-    let answer = event(record, state, &mut out, store);
+    let answer = event(bytes, state, &mut out, store);
     let next = lines(text, at, n, answer.number, answer.count, &out);
     let after = answer.state;
     Turn {

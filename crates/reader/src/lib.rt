@@ -3,7 +3,7 @@ use libc::STDIN_FILENO;
 use libc::STDOUT_FILENO;
 use model::State;
 use program::begin;
-use program::turn;
+use program::call;
 use text::end_line;
 ghost use mathlib.Core.Path.{_≡_};
 ghost use Prim.Native.Nat.{_+_, _≤_};
@@ -21,7 +21,7 @@ struct Run {
 // Writes out the text that waits, and answers whether that worked.
 fn flush(text: &[u8], fill: usize) -> bool {
     if fill <= text.len() {
-        io::write_all(STDOUT_FILENO, &text[..fill])
+        io::write_all(STDOUT_FILENO, &text[0..fill])
     } else {
         false
     }
@@ -45,7 +45,7 @@ fn one(r: Run, record: &[u8], text: &mut [u8], store: &mut [u8]) -> Run
 {
     let ready = with_room(r, text);
     let number = std::num::wrapping_add_u64(ready.records, 1);
-    let t = turn(record, number, ready.state, text, ready.fill, store);
+    let t = call(record, number, ready.state, text, ready.fill, store);
     let state = t.state;
     Run {
         state,
@@ -119,7 +119,7 @@ fn close(r: Run, text: &mut [u8])
 }
 
 // The event program: a store of zeros, the power-on, the records, the last line.
-pub fn run() {
+pub fn event_program() {
     let mut text = [0u8; 16384];
     let mut store = [0u8; 64];
     let t = begin(&mut text, &store);
