@@ -1,0 +1,2 @@
+-- from what the parts did to what the calls give
+pub mod Outcomes

@@ -1,0 +1,65 @@
+-- What the two calls give, and the parts that they are put together of. Assumes nothing.
+use Prim.Native.Nat.{ℕ, _≤_}
+use mathlib.Core.Path.{_≡_}
+use mathlib.Core.Bool.{true}
+use mathlib.Core.List.{List}
+use lib.ListN.{length}
+use Rattle.model.specs.declared.Service.{Service}
+use Rattle.model.specs.declared.Change.{Change}
+use Rattle.model.specs.declared.Change.the-variants.{Load}
+use Rattle.model.specs.declared.Groups.the-variants.{Both}
+use Rattle.model.specs.declared.Frame.{Frame}
+use Rattle.model.specs.declared.State.{State}
+use Rattle.model.specs.declared.Answer.{Answer}
+use Rattle.model.specs.Frames.{when, framesOf}
+use Rattle.model.specs.Store.{read, addressFrom}
+use Rattle.model.specs.Parts.{withCore, withReported}
+use Rattle.model.specs.Time.{emcyDue, emcyFrame}
+use Rattle.model.specs.Rules.{rules}
+use Rattle.model.specs.Step.{Outcome, Answered, done, changeOf, reports, reportedAfter, served}
+use Rattle.wire.specs.Laid.{Laid}
+use Rattle.lss.specs.Told.{partIn}
+use Rattle.node.specs.declared.Judged.{Judged}
+
+-- ---- The calls
+
+-- the answer of a call, and what output and store hold after it, are those of the definition
+pub record Gives (o : Answered) (r : Answer) (ys zs : List ℕ) : Type 0 where
+  pub answer : r ≡ o .answer
+  pub output : ys ≡ o .output
+  pub store : zs ≡ o .store
+
+-- ---- Their parts
+
+-- these frames went out, and this state comes back
+pub record Done (fs : List Frame) (t : State) (xs ys : List ℕ) (r : Answer) : Type 0 where
+  pub number : r .number ≡ done
+  pub laid : Laid fs xs ys (r .count)
+  pub state : r .state ≡ t
+
+-- EMCY where it is due, and the state with the reported flag after that
+abbrev pub emcyOf : State → List Frame
+emcyOf t = when (emcyDue t) (emcyFrame t)
+
+abbrev pub reportedNow : State → State
+reportedNow t = withCore t (withReported (t .core) (reportedAfter (emcyDue t) t))
+
+pub record IsJudged (t : State) (r : Judged) : Type 0 where
+  pub emcy : framesOf (r .emcy) ≡ emcyOf t
+  pub state : r .state ≡ reportedNow t
+
+-- what a service comes to
+abbrev pub asked : Service → State → List ℕ → Outcome
+asked v s st = served (changeOf v s (read st)) v s st
+
+-- what `serve` may count on: any service of an event but a tick, in a state that keeps the rules, and does so afterwards
+pub record Servable (v : Service) (s : State) (st : List ℕ) : Type 0 where
+  pub other : reports v ≡ true
+  pub part : partIn v ≤ 3
+  pub kept : rules s ≡ true
+  pub after : rules (asked v s st .state) ≡ true
+  pub size : length st ≡ 64
+
+-- the load of a power-on
+abbrev pub firstLoad : List ℕ → Change
+firstLoad st = Load Both (addressFrom (read st) .id)
