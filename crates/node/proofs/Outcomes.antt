@@ -23,7 +23,6 @@ use Rattle.model.specs.Service.{service}
 use Rattle.model.specs.Time.{ticked, tickFrames}
 use Rattle.model.specs.Rules.{rules, ruleUpload}
 use Rattle.model.specs.Step.{Outcome, refusal, powerOnRefusal, changeOf, reply, heard, coreAfter, booted, changed, reports, served, step, unborn, powerOn, zeroStore, refused, given, eventAnswer, powerOnAnswer}
-use Rattle.wire.specs.Laid.{Laid}
 use Rattle.laws.proofs.Tests.{within-is}
 use Rattle.laws.proofs.Loading.{address-ok}
 use Rattle.laws.proofs.Allowed.{change-allowed}
@@ -33,7 +32,9 @@ use Rattle.rules.specs.Fit.{Fit}
 use Rattle.rules.proofs.Fits.{fit}
 use Rattle.step.specs.Asked.{Suits}
 use Rattle.step.proofs.Suit.{suits}
-use Rattle.node.specs.Gives.{Gives, Done, emcyOf, reportedNow, asked, Servable, firstLoad}
+use Rattle.output.specs.Sent.{Done, emcyOf, reportedNow}
+use Rattle.output.proofs.Ticks.{laid-as}
+use Rattle.node.specs.Gives.{Gives, asked, Servable, firstLoad}
 
 -- ---- The state that EMCY is judged on: the reported flag alone is not yet right
 
@@ -83,9 +84,6 @@ gives o d e =
       output = d .laid .bytes;
       store = e;
     }
-
-pub laid-as : {fs gs : List Frame} {xs ys : List ℕ} {n : ℕ} → Laid fs xs ys n → fs ≡ gs → Laid gs xs ys n
-laid-as {xs} {ys} {n} l e = subst (λ hs. Laid hs xs ys n) e l
 
 done-as : {fs gs : List Frame} {t u : State} {xs ys : List ℕ} {r : Answer} → fs ≡ gs → t ≡ u → Done fs t xs ys r → Done gs u xs ys r
 done-as e f d =

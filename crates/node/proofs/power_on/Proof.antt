@@ -2,7 +2,7 @@
 use mathlib.Core.Path.{refl, sym, ap, _∙_}
 use Rattle.model.specs.declared.Service.the-variants as Service
 use Rattle.rules.proofs.Accepted.{lent}
-use Rattle.node.specs.Gives.{reportedNow}
+use Rattle.output.specs.Sent.{reportedNow}
 use Rattle.model.specs.Step as Step
 use Rattle.node.proofs.Outcomes.{suits-load, woken, fit-awake, gives-served, of-change, power-on-done, load-leaves, power-on-refused}
 use borrow.Author.Needs.{needs}
