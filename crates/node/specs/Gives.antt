@@ -25,6 +25,10 @@ pub record Gives (o : Answered) (r : Answer) (ys zs : List ℕ) : Type 0 where
 
 -- ---- Their parts
 
+-- the answer of a refused call
+abbrev pub turnedAway : ℕ → State → Answer
+turnedAway n s = record { number = n; count = 0; state = s }
+
 -- what a service comes to
 abbrev pub asked : Service → State → List ℕ → Outcome
 asked v s st = served (changeOf v s (read st)) v s st

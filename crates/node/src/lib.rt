@@ -32,7 +32,7 @@ ghost use Rattle.model.specs.declared.Service.the-variants as Service;
 ghost use Rattle.model.specs.Store.{read};
 ghost use Rattle.model.specs.Step as Step;
 ghost use Rattle.step.specs.Asked.{Suits};
-ghost use Rattle.node.specs.Gives.{Gives, asked, Servable, firstLoad};
+ghost use Rattle.node.specs.Gives.{Gives, turnedAway, asked, Servable, firstLoad};
 
 // ---- A service but a tick
 
@@ -48,6 +48,19 @@ fn serve(v: Service, s: State, out: &mut [u8], store: &mut [u8]) -> Answer
     let boot = booted(c);
     keep(c, s, store);
     finish(reply, boot, t, out)
+}
+
+// ---- Refusals
+
+// The answer of a refused call: no frame, and the state that it hands back.
+fn refused(number: u8, state: State) -> Answer
+    ensures { λ r. ⌜ r ≡ turnedAway number state ⌝ }
+{
+    Answer {
+        number,
+        count: 0,
+        state,
+    }
 }
 
 // ---- The power-on
@@ -117,11 +130,7 @@ pub fn power_on(identity: Identity, out: &mut [u8], store: &[u8]) -> Answer
         let t = awake(identity, first_load(&zeros), &zeros);
         let judged = judge(t);
         let state = judged.state;
-        return Answer {
-            number,
-            count: 0,
-            state,
-        };
+        return refused(number, state);
     }
     let c = first_load(store);
     let t = awake(identity, c, store);
@@ -137,11 +146,7 @@ pub fn event(event: &[u8], state: State, out: &mut [u8], store: &mut [u8]) -> An
 {
     let number = refusal(event, state, out.len(), store.len());
     if number != 0 {
-        return Answer {
-            number,
-            count: 0,
-            state,
-        };
+        return refused(number, state);
     }
     let v = service(event);
     match v {
