@@ -23,7 +23,6 @@ use Rattle.model.specs.Service.{service}
 use Rattle.model.specs.Time.{ticked, tickFrames}
 use Rattle.model.specs.Rules.{rules, ruleUpload}
 use Rattle.model.specs.Step.{Outcome, refusal, powerOnRefusal, changeOf, reply, heard, coreAfter, booted, changed, reports, served, step, unborn, powerOn, zeroStore, refused, given, eventAnswer, powerOnAnswer}
-use Rattle.wire.specs.Laid.{Laid}
 use Rattle.laws.proofs.Tests.{within-is}
 use Rattle.laws.proofs.Loading.{address-ok}
 use Rattle.laws.proofs.Allowed.{change-allowed}
@@ -33,7 +32,9 @@ use Rattle.rules.specs.Fit.{Fit}
 use Rattle.rules.proofs.Fits.{fit}
 use Rattle.step.specs.Asked.{Suits}
 use Rattle.step.proofs.Suit.{suits}
-use Rattle.node.specs.Gives.{Gives, Done, emcyOf, reportedNow, asked, Servable, firstLoad}
+use Rattle.output.specs.Sent.{Done, emcyOf, reportedNow}
+use Rattle.output.proofs.Ticks.{laid-as}
+use Rattle.node.specs.Gives.{Gives, turnedAway, asked, Servable, firstLoad}
 
 -- ---- The state that EMCY is judged on: the reported flag alone is not yet right
 
@@ -84,9 +85,6 @@ gives o d e =
       store = e;
     }
 
-pub laid-as : {fs gs : List Frame} {xs ys : List ℕ} {n : ℕ} → Laid fs xs ys n → fs ≡ gs → Laid gs xs ys n
-laid-as {xs} {ys} {n} l e = subst (λ hs. Laid hs xs ys n) e l
-
 done-as : {fs gs : List Frame} {t u : State} {xs ys : List ℕ} {r : Answer} → fs ≡ gs → t ≡ u → Done fs t xs ys r → Done gs u xs ys r
 done-as e f d =
     record { number = d .number; laid = laid-as (d .laid) e; state = d .state ∙ f }
@@ -121,10 +119,10 @@ event-done e s out st n {r} {ys} {zs} a z k g =
     (subst (λ (w : Service). Gives (given (asked w s st) out) r ys zs) k g)
 
 pub event-refused : (e : List ℕ) (s : State) (out st : List ℕ) (n : ℕ) → n ≡ refusal e s (length out) (length st) → (n ≡ 0 → ⊥)
-    → Gives (eventAnswer e s out st) (record { number = n; count = 0; state = s }) out st
+    → Gives (eventAnswer e s out st) (turnedAway n s) out st
 unfolding eventAnswer
 event-refused e s out st n a z =
-    subst (λ (m : ℕ). Gives (cond (eqb m 0) (given (step e s st) out) (refused m s out st)) (record { number = n; count = 0; state = s }) out st) a
+    subst (λ (m : ℕ). Gives (cond (eqb m 0) (given (step e s st) out) (refused m s out st)) (turnedAway n s) out st) a
     (rw (ne-eqb n 0 z) (record { answer = refl; output = refl; store = refl }))
 
 -- the services that are no tick, by their numbers
@@ -169,8 +167,8 @@ load-leaves i st c k = rw k refl
 
 pub power-on-refused : (i : Identity) (out st : List ℕ) (n : ℕ) {t : State} → n ≡ powerOnRefusal (length out) (length st) → (n ≡ 0 → ⊥)
     → t ≡ reportedNow (changed (firstLoad zeroStore) Nothing (unborn i) (read zeroStore))
-    → Gives (powerOnAnswer i out st) (record { number = n; count = 0; state = t }) out st
+    → Gives (powerOnAnswer i out st) (turnedAway n t) out st
 unfolding powerOnAnswer powerOn served
 power-on-refused i out st n {t} a z k =
-    subst (λ (m : ℕ). Gives (cond (eqb m 0) (given (powerOn i st) out) (refused m (powerOn i zeroStore .state) out st)) (record { number = n; count = 0; state = t }) out st) a
+    subst (λ (m : ℕ). Gives (cond (eqb m 0) (given (powerOn i st) out) (refused m (powerOn i zeroStore .state) out st)) (turnedAway n t) out st) a
     (rw (ne-eqb n 0 z) (record { answer = rw k; output = refl; store = refl }))

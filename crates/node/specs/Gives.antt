@@ -8,18 +8,12 @@ use Rattle.model.specs.declared.Service.{Service}
 use Rattle.model.specs.declared.Change.{Change}
 use Rattle.model.specs.declared.Change.the-variants.{Load}
 use Rattle.model.specs.declared.Groups.the-variants.{Both}
-use Rattle.model.specs.declared.Frame.{Frame}
 use Rattle.model.specs.declared.State.{State}
 use Rattle.model.specs.declared.Answer.{Answer}
-use Rattle.model.specs.Frames.{when, framesOf}
 use Rattle.model.specs.Store.{read, addressFrom}
-use Rattle.model.specs.Parts.{withCore, withReported}
-use Rattle.model.specs.Time.{emcyDue, emcyFrame}
 use Rattle.model.specs.Rules.{rules}
-use Rattle.model.specs.Step.{Outcome, Answered, done, changeOf, reports, reportedAfter, served}
-use Rattle.wire.specs.Laid.{Laid}
+use Rattle.model.specs.Step.{Outcome, Answered, changeOf, reports, served}
 use Rattle.lss.specs.Told.{partIn}
-use Rattle.node.specs.declared.Judged.{Judged}
 
 -- ---- The calls
 
@@ -31,22 +25,9 @@ pub record Gives (o : Answered) (r : Answer) (ys zs : List ℕ) : Type 0 where
 
 -- ---- Their parts
 
--- these frames went out, and this state comes back
-pub record Done (fs : List Frame) (t : State) (xs ys : List ℕ) (r : Answer) : Type 0 where
-  pub number : r .number ≡ done
-  pub laid : Laid fs xs ys (r .count)
-  pub state : r .state ≡ t
-
--- EMCY where it is due, and the state with the reported flag after that
-abbrev pub emcyOf : State → List Frame
-emcyOf t = when (emcyDue t) (emcyFrame t)
-
-abbrev pub reportedNow : State → State
-reportedNow t = withCore t (withReported (t .core) (reportedAfter (emcyDue t) t))
-
-pub record IsJudged (t : State) (r : Judged) : Type 0 where
-  pub emcy : framesOf (r .emcy) ≡ emcyOf t
-  pub state : r .state ≡ reportedNow t
+-- the answer of a refused call
+abbrev pub turnedAway : ℕ → State → Answer
+turnedAway n s = record { number = n; count = 0; state = s }
 
 -- what a service comes to
 abbrev pub asked : Service → State → List ℕ → Outcome

@@ -10,10 +10,13 @@ use Rattle.node.proofs.event.Tie as tie
 refusal-requires : tie.Need-refusal-requires
 refusal-requires c κs = search needs
 
+refused-requires : tie.Need-refused-requires
+refused-requires c κs = search needs
+
 returns : tie.Need-returns
 returns c =
-    let a = c .before .before .before .before .before .args in
-    event-refused (a .event .now) (a .state) (a .out .now) (a .store .now) _ (c .before .refusal .ensures) (c .if1 .taken)
+    let a = c .before .before .before .before .before .before .args in
+    rw (c .refused .ensures) (event-refused (a .event .now) (a .state) (a .out .now) (a .store .now) _ (c .before .before .refusal .ensures) (c .before .if1 .taken))
 
 service-requires : tie.Need-service-requires
 service-requires c κs = search needs
@@ -57,6 +60,7 @@ event-spec =
     tie.close
     (tie.spec
     refusal-requires
+    refused-requires
     returns
     service-requires
     enum-told

@@ -2,7 +2,7 @@
 use mathlib.Core.Path.{refl, sym, ap, _∙_}
 use Rattle.model.specs.declared.Service.the-variants as Service
 use Rattle.rules.proofs.Accepted.{lent}
-use Rattle.node.specs.Gives.{reportedNow}
+use Rattle.output.specs.Sent.{reportedNow}
 use Rattle.model.specs.Step as Step
 use Rattle.node.proofs.Outcomes.{suits-load, woken, fit-awake, gives-served, of-change, power-on-done, load-leaves, power-on-refused}
 use borrow.Author.Needs.{needs}
@@ -27,11 +27,15 @@ awake-requires c κs = (suits-load _ _ (c .before .first-load .ensures), refl)
 judge-requires : tie.Need-judge-requires
 judge-requires c κs = fit-awake (c .before .before .before .before .before .before .before .before .args .identity) _ _ _ (c .before .before .first-load .ensures) (c .awake .ensures)
 
+refused-requires : tie.Need-refused-requires
+refused-requires c κs = search needs
+
 returns : tie.Need-returns
 returns c =
-    let i = c .before .before .before .before .before .before .before .before .before .before .args .identity in
-    power-on-refused i _ _ _ (c .before .before .before .before .before .before .before .power-on-refusal .ensures) (c .before .before .before .before .before .before .if1 .taken)
-    (c .before .judge .ensures .state ∙ ap reportedNow (woken i Step.zeroStore _ _ (c .before .before .before .before .first-load .ensures) (c .before .before .awake .ensures)))
+    let i = c .before .before .before .before .before .before .before .before .before .before .before .args .identity in
+    rw (c .refused .ensures)
+    (power-on-refused i _ _ _ (c .before .before .before .before .before .before .before .before .power-on-refusal .ensures) (c .before .before .before .before .before .before .before .if1 .taken)
+    (c .before .before .judge .ensures .state ∙ ap reportedNow (woken i Step.zeroStore _ _ (c .before .before .before .before .before .first-load .ensures) (c .before .before .before .awake .ensures))))
 
 first-load-requires-2 : tie.Need-first-load-requires-2
 first-load-requires-2 c κs = lent _ _ (sym (c .before .power-on-refusal .ensures) ∙ c .if1 .left) .size
@@ -70,6 +74,7 @@ power-on-spec =
     slice-aggregate-awake
     awake-requires
     judge-requires
+    refused-requires
     returns
     first-load-requires-2
     awake-requires-2

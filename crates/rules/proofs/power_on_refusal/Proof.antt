@@ -7,15 +7,15 @@ use Rattle.rules.proofs.power_on_refusal.Tie as tie
 
 returns : tie.Need-returns
 unfolding Step.powerOnRefusal firstHit
-returns c = rw (lt-ltb _ _ (c .if1 .taken))
+returns c = search lt-ltb
 
 returns-2 : tie.Need-returns-2
 unfolding Step.powerOnRefusal firstHit
-returns-2 c = rw (le-ltb _ _ (c .before .if1 .left), ne-eqb _ _ (c .if2 .taken))
+returns-2 c = search (le-ltb, ne-eqb)
 
 returns-3 : tie.Need-returns-3
 unfolding Step.powerOnRefusal firstHit
-returns-3 c = rw (le-ltb _ _ (c .before .if1 .left), eq-eqb _ _ (c .if2 .left))
+returns-3 c = search (le-ltb, eq-eqb)
 
 pub power-on-refusal-spec : {M : Type 1} → statement M
 power-on-refusal-spec = tie.close (tie.spec returns returns-2 returns-3)

@@ -1,10 +1,10 @@
--- `node::tick` meets its contract: the frames that are due, and the state in which they were. Assumes nothing.
+-- `output::tick` meets its contract: the frames that are due, and the state in which they were. Assumes nothing.
 use mathlib.Core.Path.{refl, ap, _∙_}
 use Rattle.model.specs.Time.{ticked}
 use Rattle.time.specs.Told.{dueOf}
 use borrow.Author.Needs.{needs}
-use Rattle.node.proofs.tick.Statement.{statement}
-use Rattle.node.proofs.tick.Tie as tie
+use Rattle.output.proofs.tick.Statement.{statement}
+use Rattle.output.proofs.tick.Tie as tie
 
 clocked-requires : tie.Need-clocked-requires
 clocked-requires c κs = search needs

@@ -1,4 +1,4 @@
--- `node::judge` meets its contract: what each call ensures, in its place; the flag is what an EMCY that is due tells. Assumes nothing.
+-- `output::judge` meets its contract: what each call ensures, in its place; the flag is what an EMCY that is due tells. Assumes nothing.
 use mathlib.Core.Path.{_≡_, refl}
 use mathlib.Core.Bool.{Bool, true, false, cond}
 use Rattle.model.specs.declared.State.{State}
@@ -6,8 +6,8 @@ use Rattle.model.specs.Parts.{capped, errorRegister}
 use Rattle.model.specs.Time.{emcyDue, emcyFrame}
 use Rattle.model.specs.Step.{reportedAfter}
 use borrow.Author.Needs.{needs}
-use Rattle.node.proofs.judge.Statement.{statement}
-use Rattle.node.proofs.judge.Tie as tie
+use Rattle.output.proofs.judge.Statement.{statement}
+use Rattle.output.proofs.judge.Tie as tie
 
 flag-is : (due : Bool) (t : State) → cond due (capped t) (t .core .reported) ≡ reportedAfter due t
 flag-is true t = refl

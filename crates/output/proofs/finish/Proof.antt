@@ -1,12 +1,12 @@
--- `node::finish` meets its contract: three frames laid one after the other. Assumes nothing.
+-- `output::finish` meets its contract: three frames laid one after the other. Assumes nothing.
 use mathlib.Core.Path.{refl, ap, _∙_}
 use mathlib.Core.List.{_++_, append-assoc}
 use Rattle.model.specs.Frames.{framesOf}
 use Rattle.wire.proofs.Lay.{start, step}
-use Rattle.node.proofs.Outcomes.{laid-as}
+use Rattle.output.proofs.Ticks.{laid-as}
 use borrow.Author.Needs.{needs}
-use Rattle.node.proofs.finish.Statement.{statement}
-use Rattle.node.proofs.finish.Tie as tie
+use Rattle.output.proofs.finish.Statement.{statement}
+use Rattle.output.proofs.finish.Tie as tie
 
 judge-requires : tie.Need-judge-requires
 judge-requires c κs = search needs

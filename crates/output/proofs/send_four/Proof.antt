@@ -1,9 +1,9 @@
--- `node::send_four` meets its contract: four frames laid one after the other. Assumes nothing.
+-- `output::send_four` meets its contract: four frames laid one after the other. Assumes nothing.
 use native.Mathlib.Omega.{arith}
 use Rattle.wire.proofs.Lay.{start, step}
 use borrow.Author.Needs.{needs}
-use Rattle.node.proofs.send_four.Statement.{statement}
-use Rattle.node.proofs.send_four.Tie as tie
+use Rattle.output.proofs.send_four.Statement.{statement}
+use Rattle.output.proofs.send_four.Tie as tie
 
 emit-requires : tie.Need-emit-requires
 emit-requires c κs = search needs
