@@ -7,45 +7,32 @@ use settings::validity::ranges_a;
 use settings::validity::ranges_c;
 use time::frames::emcy_due;
 use time::frames::reading_of;
+use wire::address::is_bit_index;
+use wire::address::is_node_id;
 use wire::frames::can_id;
 use wire::frames::flag;
 use wire::frames::kind_of;
 use wire::frames::length;
 ghost use mathlib.Core.Path.{_≡_};
 ghost use Prim.Native.Nat.{_≤_};
-ghost use Rattle.model.specs.Store.{nodeId, bitIndex};
 ghost use Rattle.model.specs.Rules as Rules;
 ghost use Rattle.model.specs.Step as Step;
 ghost use Rattle.rules.specs.Fit.{badFrameIn};
 
 // ---- The state rules. A state is whatever a caller built: its floats may be NaN, and its digits any
 
-// A Node-ID.
-fn node_id(id: u8) -> bool
-    ensures { λ r. ⌜ r ≡ nodeId id ⌝ }
-{
-    (1 <= id) & (id <= 127)
-}
-
-// A bit index: 1 and 5 are reserved.
-fn bit_index(bit: u8) -> bool
-    ensures { λ r. ⌜ r ≡ bitIndex bit ⌝ }
-{
-    (bit <= 8) & ((bit != 1) & (bit != 5))
-}
-
 // The Node-ID and the pending one.
 fn rule_ids(s: State) -> bool
     ensures { λ r. ⌜ r ≡ Rules.ruleIds s ⌝ }
 {
-    node_id(s.core.active.id) & node_id(s.core.pending.id)
+    is_node_id(s.core.active.id) & is_node_id(s.core.pending.id)
 }
 
 // The bit index and the pending one.
 fn rule_bits(s: State) -> bool
     ensures { λ r. ⌜ r ≡ Rules.ruleBits s ⌝ }
 {
-    bit_index(s.core.active.bit) & bit_index(s.core.pending.bit)
+    is_bit_index(s.core.active.bit) & is_bit_index(s.core.pending.bit)
 }
 
 // One of the three NMT states.

@@ -4,15 +4,15 @@ use borrow.Author.Needs.{needs}
 use Rattle.rules.proofs.rule_ids.Statement.{statement}
 use Rattle.rules.proofs.rule_ids.Tie as tie
 
-node-id-requires : tie.Need-node-id-requires
-node-id-requires c κs = search needs
+is-node-id-requires : tie.Need-is-node-id-requires
+is-node-id-requires c κs = search needs
 
-node-id-requires-2 : tie.Need-node-id-requires-2
-node-id-requires-2 c κs = search needs
+is-node-id-requires-2 : tie.Need-is-node-id-requires-2
+is-node-id-requires-2 c κs = search needs
 
 returns : tie.Need-returns
 unfolding Rules.ruleIds
-returns c = rw (c .node-id2 .ensures, c .before .node-id .ensures)
+returns c = rw (c .is-node-id2 .ensures, c .before .is-node-id .ensures)
 
 pub rule-ids-spec : {M : Type 1} → statement M
-rule-ids-spec = tie.close (tie.spec node-id-requires node-id-requires-2 returns)
+rule-ids-spec = tie.close (tie.spec is-node-id-requires is-node-id-requires-2 returns)
