@@ -1,0 +1,174 @@
+-- From what the parts of a call did to what the call gives. Assumes nothing.
+use mathlib.Core.Path.{_≡_, refl, sym, ap, _∙_, subst}
+use mathlib.Core.Bool.{Bool, true, cond}
+use mathlib.Core.List.{List, [], _∷_, _++_, append-nil}
+use Prim.Native.Nat.{ℕ}
+use lib.Dec.{eqb}
+use lib.ListN.{length}
+use borrow.Author.Tests.{ne-eqb}
+use types.Run.{OneOf, miss}
+use denote.Enum.Declared.{tagOf}
+use Rattle.model.proofs.Service.{the-type}
+use Rattle.model.specs.declared.Service.{Service}
+use Rattle.model.specs.declared.Service.the-variants.{Nothing, Tick, Sample, Nmt, Sync, Remote, Sdo, Lss}
+use Rattle.model.specs.declared.Change.{Change}
+use Rattle.model.specs.declared.Frame.{Frame}
+use Rattle.model.specs.declared.Identity.{Identity}
+use Rattle.model.specs.declared.State.{State}
+use Rattle.model.specs.declared.Answer.{Answer}
+use Rattle.model.specs.Store.{read, addressFrom}
+use Rattle.model.specs.Parts.{withCore, withReported}
+use Rattle.model.specs.Changes.{effect, applied, stored}
+use Rattle.model.specs.Service.{service}
+use Rattle.model.specs.Time.{ticked, tickFrames}
+use Rattle.model.specs.Rules.{rules, ruleUpload}
+use Rattle.model.specs.Step.{Outcome, refusal, powerOnRefusal, changeOf, reply, heard, coreAfter, booted, changed, reports, served, step, unborn, powerOn, zeroStore, refused, given, eventAnswer, powerOnAnswer}
+use Rattle.laws.proofs.Tests.{within-is}
+use Rattle.laws.proofs.Loading.{address-ok}
+use Rattle.laws.proofs.Allowed.{change-allowed}
+use Rattle.laws.proofs.RulesKept.{step-rules, power-on-rules}
+use Rattle.lss.proofs.Asked.{asked-part}
+use Rattle.rules.specs.Fit.{Fit}
+use Rattle.rules.proofs.Fits.{fit}
+use Rattle.step.specs.Asked.{Suits}
+use Rattle.step.proofs.Suit.{suits}
+use Rattle.output.specs.Sent.{Done, emcyOf, reportedNow}
+use Rattle.output.proofs.Ticks.{laid-as}
+use Rattle.node.specs.Gives.{Gives, turnedAway, asked, Servable, firstLoad}
+
+-- ---- The state that EMCY is judged on: the reported flag alone is not yet right
+
+fit-before : (t : State) (b : Bool) → rules (withCore t (withReported (t .core) b)) ≡ true → Fit t
+fit-before t b r =
+    let f = fit (withCore t (withReported (t .core) b)) r in
+    record {
+      id = f .id;
+      pending = f .pending;
+      digits = f .digits;
+      first = f .first;
+      second = f .second;
+      progress = f .progress;
+      upload = unfold ruleUpload in f .upload;
+    }
+
+pub fit-served : (c : Change) (v : Service) (s : State) (st : List ℕ) → rules (served c v s st .state) ≡ true → Fit (changed c v s (read st))
+unfolding served
+fit-served c v s st r = fit-before (changed c v s (read st)) _ r
+
+pub fit-asked : (v : Service) (s : State) (st : List ℕ) (c : Change) (t : State) → rules (asked v s st .state) ≡ true
+    → c ≡ changeOf v s (read st) → t ≡ changed c v s (read st) → Fit t
+fit-asked v s st c t r k e = rw (e, k) (fit-served (changeOf v s (read st)) v s st r)
+
+pub woken : (i : Identity) (st : List ℕ) (c : Change) (t : State) → c ≡ firstLoad st → t ≡ changed c Nothing (unborn i) (read st)
+    → t ≡ changed (firstLoad st) Nothing (unborn i) (read st)
+woken i st c t k e = e ∙ ap (λ (d : Change). changed d Nothing (unborn i) (read st)) k
+
+pub fit-awake : (i : Identity) (st : List ℕ) (c : Change) (t : State) → c ≡ firstLoad st → t ≡ changed c Nothing (unborn i) (read st) → Fit t
+unfolding powerOn
+fit-awake i st c t k e = rw (woken i st c t k e) (fit-served (firstLoad st) Nothing (unborn i) st (power-on-rules i st))
+
+-- ---- The change suits its code
+
+pub suits-asked : (v : Service) (s : State) (st : List ℕ) (c : Change) → rules s ≡ true → c ≡ changeOf v s (read st) → Suits c
+suits-asked v s st c r k = rw k (suits (changeOf v s (read st)) s (change-allowed s st r v))
+
+pub suits-load : (st : List ℕ) (c : Change) → c ≡ firstLoad st → Suits c
+suits-load st c k = rw k (within-is 1 127 (addressFrom (read st) .id) (address-ok st .0) .1)
+
+-- ---- A call that is done
+
+gives : (o : Outcome) {xs ys zs : List ℕ} {r : Answer} → Done (o .sent) (o .state) xs ys r → zs ≡ o .store → Gives (given o xs) r ys zs
+gives o d e =
+    record {
+      answer = λ i. record { number = d .number i; count = d .laid .number i; state = d .state i };
+      output = d .laid .bytes;
+      store = e;
+    }
+
+done-as : {fs gs : List Frame} {t u : State} {xs ys : List ℕ} {r : Answer} → fs ≡ gs → t ≡ u → Done fs t xs ys r → Done gs u xs ys r
+done-as e f d =
+    record { number = d .number; laid = laid-as (d .laid) e; state = d .state ∙ f }
+
+-- a service but a tick: its reply, the boot-up of its change, and EMCY
+pub gives-served : (c : Change) (v : Service) (s : State) (st : List ℕ) {fs gs : List Frame} {t : State} {xs ys zs : List ℕ} {r : Answer}
+    → reports v ≡ true → fs ≡ reply v s → gs ≡ booted c → t ≡ changed c v s (read st) → zs ≡ stored c s st
+    → Done (fs ++ (gs ++ emcyOf t)) (reportedNow t) xs ys r
+    → Gives (given (served c v s st) xs) r ys zs
+unfolding served
+gives-served c v s st other a b e k d = gives (served c v s st) (done-as (rw (other, a, b, e)) (rw (other, e)) d) k
+
+-- the same for a change that is this one
+pub of-change : {c d : Change} (v : Service) (s : State) (st xs : List ℕ) {ys zs : List ℕ} {r : Answer} → c ≡ d
+    → Gives (given (served c v s st) xs) r ys zs → Gives (given (served d v s st) xs) r ys zs
+of-change v s st xs {ys} {zs} {r} e g = subst (λ (b : Change). Gives (given (served b v s st) xs) r ys zs) e g
+
+-- a tick
+pub gives-tick : (s : State) (st : List ℕ) {xs ys : List ℕ} {r : Answer} → Done (tickFrames s) (withCore s (ticked s)) xs ys r
+    → Gives (given (asked Tick s st) xs) r ys st
+unfolding served changeOf reply coreAfter heard applied effect stored
+gives-tick s st d = gives (asked Tick s st) (done-as (sym (append-nil (tickFrames s))) refl d) refl
+
+-- ---- The event
+
+pub event-done : (e : List ℕ) (s : State) (out st : List ℕ) (n : ℕ) {v : Service} {r : Answer} {ys zs : List ℕ}
+    → n ≡ refusal e s (length out) (length st) → n ≡ 0 → v ≡ service e
+    → Gives (given (asked v s st) out) r ys zs → Gives (eventAnswer e s out st) r ys zs
+unfolding eventAnswer step
+event-done e s out st n {r} {ys} {zs} a z k g =
+    subst (λ (m : ℕ). Gives (cond (eqb m 0) (given (step e s st) out) (refused m s out st)) r ys zs) (sym z ∙ a)
+    (subst (λ (w : Service). Gives (given (asked w s st) out) r ys zs) k g)
+
+pub event-refused : (e : List ℕ) (s : State) (out st : List ℕ) (n : ℕ) → n ≡ refusal e s (length out) (length st) → (n ≡ 0 → ⊥)
+    → Gives (eventAnswer e s out st) (turnedAway n s) out st
+unfolding eventAnswer
+event-refused e s out st n a z =
+    subst (λ (m : ℕ). Gives (cond (eqb m 0) (given (step e s st) out) (refused m s out st)) (turnedAway n s) out st) a
+    (rw (ne-eqb n 0 z) (record { answer = refl; output = refl; store = refl }))
+
+-- the services that are no tick, by their numbers
+abbrev pub others : List ℕ
+others = 0 ∷ 2 ∷ 3 ∷ 4 ∷ 5 ∷ 6 ∷ 7 ∷ []
+
+pub no-tick : (v : Service) → OneOf others (tagOf the-type v) → reports v ≡ true
+no-tick Nothing h = refl
+no-tick Tick h = absurd (miss others 1 tt h)
+no-tick (Sample fv) h = refl
+no-tick (Nmt command to) h = refl
+no-tick Sync h = refl
+no-tick (Remote to) h = refl
+no-tick (Sdo to q) h = refl
+no-tick (Lss q) h = refl
+
+-- what `serve` may count on
+pub servable : (e : List ℕ) (s : State) (st : List ℕ) (v : Service) → v ≡ service e → reports v ≡ true → rules s ≡ true → length st ≡ 64
+    → Servable v s st
+unfolding step
+servable e s st v k other r size =
+    record {
+      other = other;
+      part = rw k (asked-part e);
+      kept = r;
+      after = rw k (step-rules e s st r);
+      size = size;
+    }
+
+-- ---- The power-on
+
+pub power-on-done : (i : Identity) (out st : List ℕ) (n : ℕ) {r : Answer} {ys : List ℕ} → n ≡ powerOnRefusal (length out) (length st) → n ≡ 0
+    → Gives (given (served (firstLoad st) Nothing (unborn i) st) out) r ys st → Gives (powerOnAnswer i out st) r ys st
+unfolding powerOnAnswer powerOn
+power-on-done i out st n {r} {ys} a z g =
+    subst (λ (m : ℕ). Gives (cond (eqb m 0) (given (powerOn i st) out) (refused m (powerOn i zeroStore .state) out st)) r ys st) (sym z ∙ a) g
+
+-- its load leaves the store
+pub load-leaves : (i : Identity) (st : List ℕ) (c : Change) → c ≡ firstLoad st → st ≡ stored c (unborn i) st
+unfolding stored
+load-leaves i st c k = rw k refl
+
+pub power-on-refused : (i : Identity) (out st : List ℕ) (n : ℕ) {t : State} → n ≡ powerOnRefusal (length out) (length st) → (n ≡ 0 → ⊥)
+    → t ≡ reportedNow (changed (firstLoad zeroStore) Nothing (unborn i) (read zeroStore))
+    → Gives (powerOnAnswer i out st) (turnedAway n t) out st
+unfolding powerOnAnswer powerOn served
+power-on-refused i out st n {t} a z k =
+    subst (λ (m : ℕ). Gives (cond (eqb m 0) (given (powerOn i st) out) (refused m (powerOn i zeroStore .state) out st)) (turnedAway n t) out st) a
+    (rw (ne-eqb n 0 z) (record { answer = rw k; output = refl; store = refl }))

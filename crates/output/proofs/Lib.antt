@@ -1,0 +1,2 @@
+-- frames that are these; a tick at which nothing is due
+pub mod Ticks

@@ -1,0 +1,142 @@
+// What an event sends, laid into the output: the reply, the boot-up and EMCY, or the frames of a tick; and the answer.
+use model::Answer;
+use model::Frame;
+use model::Reply;
+use model::State;
+use time::frames::emcy_due;
+use time::frames::emcy_frame;
+use time::frames::heartbeat_frame;
+use time::frames::reading_of;
+use time::frames::srdo_first;
+use time::frames::srdo_second;
+use time::frames::tpdo_frame;
+use time::tick::Due;
+use time::tick::clocked;
+use time::tick::due_of;
+use time::tick::fired;
+use wire::frames::emit;
+ghost use mathlib.Core.Path.{_≡_};
+ghost use mathlib.Core.Bool.{cond};
+ghost use mathlib.Core.List.{_++_};
+ghost use Prim.Native.Nat.{_≤_};
+ghost use lib.ListN.{length};
+ghost use Rattle.model.specs.Frames as Frames;
+ghost use Rattle.model.specs.Frames.{framesOf};
+ghost use Rattle.model.specs.Parts.{withCore};
+ghost use Rattle.model.specs.Time as Time;
+ghost use Rattle.wire.specs.Laid.{Laid};
+ghost use Rattle.time.specs.Told.{dueOf};
+ghost use Rattle.rules.specs.Fit.{Fit};
+ghost use Rattle.output.specs.Sent.{Done, emcyOf, reportedNow, IsJudged};
+
+// ---- EMCY
+
+// EMCY as a state is judged: the frame where it is due, and the state with the reported flag.
+pub struct Judged {
+    pub emcy: Reply,
+    pub state: State,
+}
+
+// The reported flag: what an EMCY that is due tells.
+fn reported_after(due: bool, capped: bool, reported: bool) -> bool
+    ensures { λ r. ⌜ r ≡ cond due capped reported ⌝ }
+{
+    if due { capped } else { reported }
+}
+
+// A state is judged by its present reading.
+pub fn judge(t: State) -> Judged
+    requires { ⌜ Fit t ⌝ }
+    ensures { λ r. ⌜ IsJudged t r ⌝ }
+{
+    let reading = reading_of(t);
+    let capped = reading.integer.capped;
+    let send = emcy_due(t.core.nmt, capped, t.core.reported);
+    let frame = emcy_frame(t.core.active.id, capped);
+    let emcy = Reply { send, frame };
+    let reported = reported_after(send, capped, t.core.reported);
+    let mut state = t;
+    state.core.reported = reported;
+    Judged { emcy, state }
+}
+
+// The reply and the boot-up go out, and last the EMCY, judged on the state t after them.
+pub fn finish(reply: Reply, boot: Reply, t: State, out: &mut [u8]) -> Answer
+    requires { ⌜ Fit t × (48 ≤ length (now out)) ⌝ }
+    ensures { λ r. ⌜ Done (framesOf reply ++ (framesOf boot ++ emcyOf t)) (reportedNow t) (now (out .entry)) (now (out .exit)) r ⌝ }
+{
+    let judged = judge(t);
+    let emcy = judged.emcy;
+    let state = judged.state;
+    let n1 = emit(out, 0, reply.send, reply.frame);
+    let n2 = emit(out, n1, boot.send, boot.frame);
+    let n3 = emit(out, n2, emcy.send, emcy.frame);
+    Answer {
+        number: 0,
+        count: n3 as u8,
+        state,
+    }
+}
+
+// ---- A tick
+
+// Four frames go out in this order, each where it is sent.
+fn send_four(first: Reply, second: Reply, third: Reply, fourth: Reply, out: &mut [u8]) -> usize
+    requires { ⌜ 48 ≤ length (now out) ⌝ }
+    ensures { λ r. ⌜ Laid (((framesOf first ++ framesOf second) ++ framesOf third) ++ framesOf fourth) (now (out .entry)) (now (out .exit)) r × (r ≤ 4) ⌝ }
+{
+    let n1 = emit(out, 0, first.send, first.frame);
+    let n2 = emit(out, n1, second.send, second.frame);
+    let n3 = emit(out, n2, third.send, third.frame);
+    emit(out, n3, fourth.send, fourth.frame)
+}
+
+// A frame where a test holds.
+fn when(send: bool, frame: Frame) -> Reply
+    ensures { λ r. ⌜ framesOf r ≡ Frames.when send frame ⌝ }
+{
+    Reply { send, frame }
+}
+
+// Heartbeat, TPDO and the two frames of the SRDO, each where it is due. While capped an SRDO period passes unsent.
+// At most ticks nothing is due, and the reading is not made.
+fn send_due(s: State, due: Due, out: &mut [u8]) -> usize
+    requires { ⌜ Fit s × ((due ≡ dueOf (Time.clocked s)) × (48 ≤ length (now out))) ⌝ }
+    ensures { λ r. ⌜ Laid (Time.tickFrames s) (now (out .entry)) (now (out .exit)) r × (r ≤ 4) ⌝ }
+{
+    if !(due.heartbeat | (due.tpdo | due.srdo)) {
+        return 0;
+    }
+    let id = s.core.active.id;
+    let reading = reading_of(s);
+    let srdo = due.srdo & !reading.integer.capped;
+    let heartbeat = heartbeat_frame(id, s.core.nmt);
+    let tpdo = tpdo_frame(id, reading.integer.bits);
+    let first = srdo_first(s.settings.communication.srdo.first, reading.bits);
+    let second = srdo_second(s.settings.communication.srdo.second, reading.bits);
+    send_four(
+        when(due.heartbeat, heartbeat),
+        when(due.tpdo, tpdo),
+        when(srdo, first),
+        when(srdo, second),
+        out,
+    )
+}
+
+// The clock moves, and what is due goes out and starts anew. No EMCY can be due.
+pub fn tick(s: State, out: &mut [u8]) -> Answer
+    requires { ⌜ Fit s × (48 ≤ length (now out)) ⌝ }
+    ensures { λ r. ⌜ Done (Time.tickFrames s) (withCore s (Time.ticked s)) (now (out .entry)) (now (out .exit)) r ⌝ }
+{
+    let mut state = clocked(s);
+    let due = due_of(state);
+    let n = send_due(s, due, out);
+    let old = state.core;
+    let core = fired(due, old);
+    state.core = core;
+    Answer {
+        number: 0,
+        count: n as u8,
+        state,
+    }
+}

@@ -1,0 +1,2 @@
+-- every change that a service makes suits its code
+pub mod Suit

@@ -1,0 +1,115 @@
+// The state and the store after a change. Nothing else touches the saved parameters or the store.
+use super::ask::silent;
+use super::heard::heard;
+use model::Change;
+use model::Core;
+use model::Groups;
+use model::Reply;
+use model::Service;
+use model::Settings;
+use model::State;
+use nmt::boot_up;
+use nmt::reset;
+use settings::change::take_out;
+use settings::change::write;
+use store::load::address;
+use store::load::load;
+use store::write::readdress;
+use store::write::save;
+use time::restarts::restart;
+use time::restarts::timer_of;
+ghost use mathlib.Core.Path.{_≡_};
+ghost use lib.ListN.{length};
+ghost use Rattle.model.specs.Frames.{framesOf};
+ghost use Rattle.model.specs.Store.{read};
+ghost use Rattle.model.specs.Changes.{applied, stored};
+ghost use Rattle.model.specs.Nmt as Nmt;
+ghost use Rattle.model.specs.Step as Step;
+ghost use Rattle.rules.specs.Fit.{Fit};
+ghost use Rattle.step.specs.Asked.{Suits};
+
+// The parameters after it.
+fn settled(c: Change, k: Settings, store: &[u8]) -> Settings
+    requires { ⌜ Suits c × (length (now store) ≡ 64) ⌝ }
+    ensures { λ r. ⌜ r ≡ applied c k (read (now (store .entry))) ⌝ }
+{
+    match c {
+        Change::Write(p, x) => write(k, p, x),
+        Change::TakeOut(gs) => take_out(k, gs),
+        Change::Load(gs, id) => load(gs, id, k, store),
+        _ => k,
+    }
+}
+
+// The rest of the state after a load, with the parameters k that were loaded: it is a reset.
+fn loaded(gs: Groups, id: u8, k: Settings, c: Core, store: &[u8]) -> Core
+    requires { ⌜ length (now store) ≡ 64 ⌝ }
+    ensures { λ r. ⌜ r ≡ Nmt.reset gs id (read (now (store .entry))) k c ⌝ }
+{
+    let saved = address(store);
+    reset(gs, id, saved.bit, k, c)
+}
+
+// The rest of the state after a service and its change, with the parameters k after that: a written period or type restarts its timer.
+fn core_after(c: Change, v: Service, s: State, k: Settings, store: &[u8]) -> Core
+    requires { ⌜ Fit s × (length (now store) ≡ 64) ⌝ }
+    ensures { λ r. ⌜ r ≡ Step.coreAfter c v s (read (now (store .entry))) k ⌝ }
+{
+    match c {
+        Change::Write(p, _) => restart(timer_of(p), heard(v, s)),
+        Change::Load(gs, id) => {
+            let old = s.core;
+            loaded(gs, id, k, old, store)
+        }
+        _ => heard(v, s),
+    }
+}
+
+// The state after a service and its change, but for EMCY.
+pub fn changed(c: Change, v: Service, s: State, store: &[u8]) -> State
+    requires { ⌜ Suits c × (Fit s × (length (now store) ≡ 64)) ⌝ }
+    ensures { λ r. ⌜ r ≡ Step.changed c v s (read (now (store .entry))) ⌝ }
+{
+    let identity = s.identity;
+    let old = s.settings;
+    let settings = settled(c, old, store);
+    let core = core_after(c, v, s, settings, store);
+    State {
+        identity,
+        settings,
+        core,
+    }
+}
+
+// The boot-up where it is a load, with the ID that becomes active.
+pub fn booted(c: Change) -> Reply
+    requires { ⌜ Suits c ⌝ }
+    ensures { λ r. ⌜ framesOf r ≡ Step.booted c ⌝ }
+{
+    match c {
+        Change::Load(_, id) => {
+            let frame = boot_up(id);
+            Reply { send: true, frame }
+        }
+        _ => silent(),
+    }
+}
+
+// The store after it: a save puts records in, a load word takes them out, 17h puts the pending pair in.
+pub fn keep(c: Change, s: State, store: &mut [u8])
+    requires { ⌜ length (now store) ≡ 64 ⌝ }
+    ensures { λ _. ⌜ now (store .exit) ≡ stored c s (now (store .entry)) ⌝ }
+{
+    match c {
+        Change::Save(gs) => {
+            let k = s.settings;
+            save(gs, s.core.active.id, k, store);
+        }
+        Change::TakeOut(gs) => store::write::take_out(gs, store),
+        Change::SavePending => {
+            let pending = s.core.pending;
+            readdress(pending, store);
+        }
+        _ => {}
+    }
+}
