@@ -9,13 +9,15 @@ ghost use mathlib.Core.Path.{_≡_};
 ghost use Prim.Native.Nat.{_+_, _≤_};
 ghost use lib.ListN.{length};
 
-// What is kept from record to record: the node, the counts, how much of the text is waiting, and whether to go on.
+// What is kept from record to record: the node, the counts, how much of the text is waiting, whether there is more to read, and whether the output
+// still takes text.
 struct Run {
     state: State,
     records: u64,
     frames: u64,
     fill: usize,
     more: bool,
+    open: bool,
 }
 
 // Writes out the text that waits, and answers whether that worked.
@@ -27,13 +29,14 @@ fn flush(text: &[u8], fill: usize) -> bool {
     }
 }
 
-// Room for the next lines: where there is little left, the text so far is written out. A closed output ends the run.
+// Room for the next lines: where there is little left, the text so far is written out. Nothing is written to an output that was
+// found closed, so that no text is missing from the middle.
 fn with_room(r: Run, text: &[u8]) -> Run
     ensures { λ r. ⌜ r .fill + 168 ≤ 16384 ⌝ }
 {
     let mut next = r;
     if 16216 < r.fill {
-        next.more = flush(text, r.fill);
+        next.open = r.open && flush(text, r.fill);
         next.fill = 0;
     }
     next
@@ -53,6 +56,7 @@ fn one(r: Run, record: &[u8], text: &mut [u8], store: &mut [u8]) -> Run
         frames: std::num::wrapping_add_u64(ready.frames, t.frames),
         fill: t.at,
         more: ready.more,
+        open: ready.open,
     }
 }
 
@@ -83,16 +87,14 @@ fn records(r: Run, s: &[u8], text: &mut [u8], store: &mut [u8]) -> Run
     now
 }
 
-// One buffer of 1,024 records. Where it is not full, the input has ended.
+// One buffer of 1,024 records. Where it is not full, the input has ended; where the output takes no more text, so has the run.
 fn buffer(r: Run, text: &mut [u8], store: &mut [u8]) -> Run
     requires { ⌜ length (now text) ≡ 16384 ⌝ }
 {
     let mut input = [0u8; 13312];
     let n = io::read_full(STDIN_FILENO, &mut input);
     let mut after = records(r, &input[..n], text, store);
-    if n < 13312 {
-        after.more = false;
-    }
+    after.more = after.open && n == 13312;
     after
 }
 
@@ -109,13 +111,15 @@ fn input(r: Run, text: &mut [u8], store: &mut [u8]) -> Run
     now
 }
 
-// The last line.
+// The last line, where the output is open.
 fn close(r: Run, text: &mut [u8])
     requires { ⌜ length (now text) ≡ 16384 ⌝ }
 {
     let ready = with_room(r, text);
     let end = end_line(text, ready.fill, ready.records, ready.frames);
-    flush(text, end);
+    if ready.open {
+        flush(text, end);
+    }
 }
 
 // The event program: a store of zeros, the power-on, the records, the last line.
@@ -130,6 +134,7 @@ pub fn event_program() {
         frames: t.frames,
         fill: t.at,
         more: true,
+        open: true,
     };
     let end = input(start, &mut text, &mut store);
     close(end, &mut text);
