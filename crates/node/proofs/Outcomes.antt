@@ -51,7 +51,7 @@ fit-before t b r =
       upload = unfold ruleUpload in f .upload;
     }
 
-pub fit-served : (c : Change) (v : Service) (s : State) (st : List ℕ) → rules (served c v s st .state) ≡ true → Fit (changed c v s (read st))
+fit-served : (c : Change) (v : Service) (s : State) (st : List ℕ) → rules (served c v s st .state) ≡ true → Fit (changed c v s (read st))
 unfolding served
 fit-served c v s st r = fit-before (changed c v s (read st)) _ r
 

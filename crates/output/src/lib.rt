@@ -99,7 +99,7 @@ fn when(send: bool, frame: Frame) -> Reply
 }
 
 // Heartbeat, TPDO and the two frames of the SRDO, each where it is due. While capped an SRDO period passes unsent.
-// At most ticks nothing is due, and the reading is not made.
+// On most ticks nothing is due: then the reading is not made.
 fn send_due(s: State, due: Due, out: &mut [u8]) -> usize
     requires { ⌜ Fit s × ((due ≡ dueOf (Time.clocked s)) × (48 ≤ length (now out))) ⌝ }
     ensures { λ r. ⌜ Laid (Time.tickFrames s) (now (out .entry)) (now (out .exit)) r × (r ≤ 4) ⌝ }

@@ -1,20 +1,17 @@
 -- A state that keeps the rules is fit: each bound out of its rule. Assumes nothing.
 use mathlib.Core.Path.{_≡_, refl}
-use mathlib.Core.Bool.{Bool, true, false, _&&_, cond}
+use mathlib.Core.Bool.{Bool, true, false, cond}
 use Prim.Native.Nat.{ℕ, _≤_}
-use lib.Dec.{eqb, leb}
+use lib.Dec.{leb}
 use borrow.Author.Tests.{leb-true}
 use native.Mathlib.Omega.{arith}
 use Rattle.model.specs.declared.Value.the-variants.{U8, U32}
-use Rattle.model.specs.declared.Parameter.{Parameter}
 use Rattle.model.specs.declared.Parameter.the-variants.{P1301s5, P1301s6, P6132}
-use Rattle.model.specs.declared.Verdict.{Verdict}
 use Rattle.model.specs.declared.Verdict.the-variants.{Inside, Outside, Above, Below}
 use Rattle.model.specs.declared.Group.the-variants.{C, A}
 use Rattle.model.specs.declared.State.{State}
-use Rattle.model.specs.Settings.{row, rows, judge, isInside, inForce, inRanges, oddCob, evenCob, between, oneOf}
-use Rattle.model.specs.Bytes.{within}
-use Rattle.model.specs.Rules.{rules, ruleIds, ruleRanges, ruleLss, ruleUpload}
+use Rattle.model.specs.Settings.{rows, judge, isInside, inForce, inRanges, oddCob, evenCob, between, oneOf}
+use Rattle.model.specs.Rules.{rules, ruleRanges, ruleLss, ruleUpload}
 use Rattle.laws.proofs.Tests.{and-l, and-r, within-is}
 use Rattle.laws.proofs.Parameters.{range-at}
 use Rattle.laws.proofs.Allowed.{id-ok, pending-ok}

@@ -1,8 +1,4 @@
 -- Every change that a service makes suits its code: it is allowed. Assumes nothing.
-use mathlib.Core.Path.{_≡_}
-use mathlib.Core.Bool.{true}
-use mathlib.Core.List.{List}
-use Prim.Native.Nat.{ℕ}
 use Rattle.model.specs.declared.Change.{Change}
 use Rattle.model.specs.declared.Change.the-variants.{Keep, Write, Save, TakeOut, Load, SavePending}
 use Rattle.model.specs.declared.State.{State}

@@ -28,14 +28,18 @@ same-length c = search needs
 
 returns : tie.Need-returns
 returns c =
-    let a = c .before .before .before .before .before .before .before .before .before .before .before .before .before .before .before .before .args in
+    let c6 = c .before .before .before .before .before .before in
+    let c10 = c6 .before .before .before .before in
+    let c14 = c10 .before .before .before .before in
+    let c16 = c14 .before .before in
+    let a = c16 .args in
     let reply = framesOf (a .reply) in
     let boot = framesOf (a .boot) in
-    let judged = c .before .before .before .before .before .before .before .before .before .before .before .before .before .before .judge .ensures in
+    let judged = c14 .judge .ensures in
     let order = append-assoc reply boot _ ∙ ap (λ fs. reply ++ (boot ++ fs)) (judged .emcy) in
     record {
       number = refl;
-      laid = laid-as (step (step (step (start _) (c .before .before .before .before .before .before .before .before .before .before .emit .ensures)) (c .before .before .before .before .before .before .emit2 .ensures)) (c .before .before .emit3 .ensures)) order;
+      laid = laid-as (step (step (step (start _) (c10 .emit .ensures)) (c6 .emit2 .ensures)) (c .before .before .emit3 .ensures)) order;
       state = judged .state;
     }
 

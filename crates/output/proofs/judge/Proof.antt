@@ -27,7 +27,11 @@ reported-after-requires c κs = search needs
 
 returns : tie.Need-returns
 unfolding emcyDue emcyFrame errorRegister
-returns c = record { emcy = rw (c .before .before .emcy-frame .ensures, c .before .before .before .emcy-due .ensures, c .before .before .before .before .reading-of .ensures); state = rw (c .before .reported-after .ensures, c .before .before .before .emcy-due .ensures, c .before .before .before .before .reading-of .ensures, flag-is (emcyDue (c .before .before .before .before .before .args .t)) (c .before .before .before .before .before .args .t)) }
+returns c =
+    let c3 = c .before .before .before in
+    let c4 = c3 .before in
+    let c5 = c4 .before in
+    record { emcy = rw (c .before .before .emcy-frame .ensures, c3 .emcy-due .ensures, c4 .reading-of .ensures); state = rw (c .before .reported-after .ensures, c3 .emcy-due .ensures, c4 .reading-of .ensures, flag-is (emcyDue (c5 .args .t)) (c5 .args .t)) }
 
 pub judge-spec : {M : Type 1} → statement M
 judge-spec =

@@ -9,7 +9,9 @@ use Rattle.output.proofs.send_due.Statement.{statement}
 use Rattle.output.proofs.send_due.Tie as tie
 
 returns : tie.Need-returns
-returns c = (laid-as (start _) (quiet (c .before .before .before .before .args .s) (c .before .before .before .before .args .due) (c .before .before .before .before .pre .1 .0) (not-true _ (c .if1 .taken))), omega arith)
+returns c =
+    let c4 = c .before .before .before .before in
+    (laid-as (start _) (quiet (c4 .args .s) (c4 .args .due) (c4 .pre .1 .0) (not-true _ (c .if1 .taken))), omega arith)
 
 reading-of-requires : tie.Need-reading-of-requires
 reading-of-requires c κs = search needs
@@ -39,25 +41,37 @@ when-requires-4 : tie.Need-when-requires-4
 when-requires-4 c κs = search needs
 
 send-four-requires : tie.Need-send-four-requires
-send-four-requires c κs = c .before .before .before .before .before .before .before .before .before .before .before .before .before .before .before .before .pre .1 .1
+send-four-requires c κs =
+    let c16 = c .before .before .before .before .before .before .before .before .before .before .before .before .before .before .before .before in
+    c16 .pre .1 .1
 
 same-length : tie.Need-same-length
 same-length c = search needs
 
 returns-2 : tie.Need-returns-2
 returns-2 c =
+    let c4 = c .before .before .before .before in
+    let c5 = c4 .before in
+    let c6 = c5 .before in
+    let c7 = c6 .before in
+    let c8 = c7 .before in
+    let c9 = c8 .before in
+    let c10 = c9 .before in
+    let c11 = c10 .before in
+    let c14 = c11 .before .before .before in
+    let c19 = c14 .before .before .before .before .before in
     let sent = c .before .before .send-four .ensures in (
       laid-as (sent .0) (
           rw (
-            c .before .before .before .before .before .before .before .when .ensures,
-            c .before .before .before .before .before .before .when2 .ensures,
-            c .before .before .before .before .before .when3 .ensures,
-            c .before .before .before .before .when4 .ensures,
-            c .before .before .before .before .before .before .before .before .srdo-second .ensures,
-            c .before .before .before .before .before .before .before .before .before .srdo-first .ensures,
-            c .before .before .before .before .before .before .before .before .before .before .tpdo-frame .ensures,
-            c .before .before .before .before .before .before .before .before .before .before .before .heartbeat-frame .ensures,
-          ) (sent-at-tick (c .before .before .before .before .before .before .before .before .before .before .before .before .before .before .before .before .before .before .before .args .s) (c .before .before .before .before .before .before .before .before .before .before .before .before .before .before .before .before .before .before .before .args .due) _ (c .before .before .before .before .before .before .before .before .before .before .before .before .before .before .before .before .before .before .before .pre .1 .0) (c .before .before .before .before .before .before .before .before .before .before .before .before .before .before .reading-of .ensures))
+            c7 .when .ensures,
+            c6 .when2 .ensures,
+            c5 .when3 .ensures,
+            c4 .when4 .ensures,
+            c8 .srdo-second .ensures,
+            c9 .srdo-first .ensures,
+            c10 .tpdo-frame .ensures,
+            c11 .heartbeat-frame .ensures,
+          ) (sent-at-tick (c19 .args .s) (c19 .args .due) _ (c19 .pre .1 .0) (c14 .reading-of .ensures))
           ),
       sent .1,
     )

@@ -13,7 +13,9 @@ due-of-requires : tie.Need-due-of-requires
 due-of-requires c κs = search needs
 
 send-due-requires : tie.Need-send-due-requires
-send-due-requires c κs = (c .before .before .before .before .pre .0, (c .before .due-of .ensures ∙ ap dueOf (c .before .before .clocked .ensures), c .before .before .before .before .pre .1))
+send-due-requires c κs =
+    let c4 = c .before .before .before .before in
+    (c4 .pre .0, (c .before .due-of .ensures ∙ ap dueOf (c .before .before .clocked .ensures), c4 .pre .1))
 
 fired-requires : tie.Need-fired-requires
 fired-requires c κs = search needs
@@ -26,7 +28,11 @@ same-length c = search needs
 
 returns : tie.Need-returns
 unfolding ticked
-returns c = record { number = refl; laid = c .before .before .before .before .send-due .ensures .0; state = rw (c .fired .ensures, c .before .before .before .before .before .before .due-of .ensures, c .before .before .before .before .before .before .before .clocked .ensures) }
+returns c =
+    let c4 = c .before .before .before .before in
+    let c6 = c4 .before .before in
+    let c7 = c6 .before in
+    record { number = refl; laid = c4 .send-due .ensures .0; state = rw (c .fired .ensures, c6 .due-of .ensures, c7 .clocked .ensures) }
 
 pub tick-spec : {M : Type 1} → statement M
 tick-spec =

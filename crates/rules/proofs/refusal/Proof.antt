@@ -52,25 +52,50 @@ bad-frame-requires c κs = search needs
 
 returns-3 : tie.Need-returns-3
 unfolding Step.refusal firstHit
-returns-3 c = rw (eq-eqb _ _ (c .before .before .before .before .if1 .left), rw (c .before .before .before .kind-of .ensures) at (c .before .before .if2 .left), rw (c .before .before .before .kind-of .ensures, c .before .bad-frame .ensures) at (c .if3 .taken))
+returns-3 c =
+    let c3 = c .before .before .before in
+    let c4 = c3 .before in
+    rw (eq-eqb _ _ (c4 .if1 .left), rw (c3 .kind-of .ensures) at (c .before .before .if2 .left), rw (c3 .kind-of .ensures, c .before .bad-frame .ensures) at (c .if3 .taken))
 
 power-on-refusal-requires : tie.Need-power-on-refusal-requires
 power-on-refusal-requires c κs = search needs
 
 returns-4 : tie.Need-returns-4
 unfolding Step.refusal firstHit
-returns-4 c = rw (eq-eqb _ _ (c .before .before .before .before .before .before .if1 .left), rw (c .before .before .before .before .before .kind-of .ensures) at (c .before .before .before .before .if2 .left), rw (c .before .before .before .before .before .kind-of .ensures, c .before .before .before .bad-frame .ensures) at (c .before .before .if3 .left)) (lent-badly (c .before .before .before .before .before .before .before .before .args .out) (c .before .before .before .before .before .before .before .before .args .store) (c .before .before .before .before .before .before .before .before .args .s) _ (c .before .power-on-refusal .ensures) (c .if4 .taken))
+returns-4 c =
+    let c3 = c .before .before .before in
+    let c4 = c3 .before in
+    let c5 = c4 .before in
+    let c6 = c5 .before in
+    let c8 = c6 .before .before in
+    rw (eq-eqb _ _ (c6 .if1 .left), rw (c5 .kind-of .ensures) at (c4 .if2 .left), rw (c5 .kind-of .ensures, c3 .bad-frame .ensures) at (c .before .before .if3 .left)) (lent-badly (c8 .args .out) (c8 .args .store) (c8 .args .s) _ (c .before .power-on-refusal .ensures) (c .if4 .taken))
 
 rules-requires : tie.Need-rules-requires
 rules-requires c κs = search needs
 
 returns-5 : tie.Need-returns-5
 unfolding Step.refusal firstHit
-returns-5 c = rw (eq-eqb _ _ (c .before .before .before .before .before .before .before .before .if1 .left), rw (c .before .before .before .before .before .before .before .kind-of .ensures) at (c .before .before .before .before .before .before .if2 .left), rw (c .before .before .before .before .before .before .before .kind-of .ensures, c .before .before .before .before .before .bad-frame .ensures) at (c .before .before .before .before .if3 .left)) (rw (c .if5 .taken) at (lent-well (c .before .before .before .before .before .before .before .before .before .before .args .out) (c .before .before .before .before .before .before .before .before .before .before .args .store) (c .before .before .before .before .before .before .before .before .before .before .args .s) _ _ (c .before .before .before .power-on-refusal .ensures) (c .before .before .if4 .left) (c .before .rules .ensures)))
+returns-5 c =
+    let c3 = c .before .before .before in
+    let c4 = c3 .before in
+    let c5 = c4 .before in
+    let c6 = c5 .before in
+    let c7 = c6 .before in
+    let c8 = c7 .before in
+    let c10 = c8 .before .before in
+    rw (eq-eqb _ _ (c8 .if1 .left), rw (c7 .kind-of .ensures) at (c6 .if2 .left), rw (c7 .kind-of .ensures, c5 .bad-frame .ensures) at (c4 .if3 .left)) (rw (c .if5 .taken) at (lent-well (c10 .args .out) (c10 .args .store) (c10 .args .s) _ _ (c3 .power-on-refusal .ensures) (c .before .before .if4 .left) (c .before .rules .ensures)))
 
 returns-6 : tie.Need-returns-6
 unfolding Step.refusal firstHit
-returns-6 c = rw (eq-eqb _ _ (c .before .before .before .before .before .before .before .before .if1 .left), rw (c .before .before .before .before .before .before .before .kind-of .ensures) at (c .before .before .before .before .before .before .if2 .left), rw (c .before .before .before .before .before .before .before .kind-of .ensures, c .before .before .before .before .before .bad-frame .ensures) at (c .before .before .before .before .if3 .left)) (rw (c .if5 .left) at (lent-well (c .before .before .before .before .before .before .before .before .before .before .args .out) (c .before .before .before .before .before .before .before .before .before .before .args .store) (c .before .before .before .before .before .before .before .before .before .before .args .s) _ _ (c .before .before .before .power-on-refusal .ensures) (c .before .before .if4 .left) (c .before .rules .ensures)))
+returns-6 c =
+    let c3 = c .before .before .before in
+    let c4 = c3 .before in
+    let c5 = c4 .before in
+    let c6 = c5 .before in
+    let c7 = c6 .before in
+    let c8 = c7 .before in
+    let c10 = c8 .before .before in
+    rw (eq-eqb _ _ (c8 .if1 .left), rw (c7 .kind-of .ensures) at (c6 .if2 .left), rw (c7 .kind-of .ensures, c5 .bad-frame .ensures) at (c4 .if3 .left)) (rw (c .if5 .left) at (lent-well (c10 .args .out) (c10 .args .store) (c10 .args .s) _ _ (c3 .power-on-refusal .ensures) (c .before .before .if4 .left) (c .before .rules .ensures)))
 
 pub refusal-spec : {M : Type 1} → statement M
 refusal-spec =

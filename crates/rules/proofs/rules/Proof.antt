@@ -55,7 +55,11 @@ rule-ranges-requires : tie.Need-rule-ranges-requires
 rule-ranges-requires c κs = search needs
 
 returns : tie.Need-returns
-returns c = decided (c .before .before .before .before .before .args .s) (not-true _ (rw (c .before .before .before .before .rule-ids .ensures, c .before .before .before .rule-bits .ensures, c .before .before .rule-nmt .ensures, c .before .rule-ranges .ensures) at (c .if1 .taken)))
+returns c =
+    let c3 = c .before .before .before in
+    let c4 = c3 .before in
+    let c5 = c4 .before in
+    decided (c5 .args .s) (not-true _ (rw (c4 .rule-ids .ensures, c3 .rule-bits .ensures, c .before .before .rule-nmt .ensures, c .before .rule-ranges .ensures) at (c .if1 .taken)))
 
 rule-marks-requires : tie.Need-rule-marks-requires
 rule-marks-requires c κs = search needs
@@ -64,7 +68,13 @@ rule-start-requires : tie.Need-rule-start-requires
 rule-start-requires c κs = search needs
 
 rule-reported-requires : tie.Need-rule-reported-requires
-rule-reported-requires c κs = few-digits (c .before .before .before .before .before .before .before .args .s) (in-range (c .before .before .before .before .before .before .before .args .s) (not-false _ (rw (c .before .before .before .before .before .before .rule-ids .ensures, c .before .before .before .before .before .rule-bits .ensures, c .before .before .before .before .rule-nmt .ensures, c .before .before .before .rule-ranges .ensures) at (c .before .before .if1 .left))))
+rule-reported-requires c κs =
+    let c3 = c .before .before .before in
+    let c4 = c3 .before in
+    let c5 = c4 .before in
+    let c6 = c5 .before in
+    let c7 = c6 .before in
+    few-digits (c7 .args .s) (in-range (c7 .args .s) (not-false _ (rw (c6 .rule-ids .ensures, c5 .rule-bits .ensures, c4 .rule-nmt .ensures, c3 .rule-ranges .ensures) at (c .before .before .if1 .left))))
 
 rule-lss-requires : tie.Need-rule-lss-requires
 rule-lss-requires c κs = search needs
@@ -76,7 +86,17 @@ rule-upload-requires : tie.Need-rule-upload-requires
 rule-upload-requires c κs = search needs
 
 returns-2 : tie.Need-returns-2
-returns-2 c = rw (c .rule-upload .ensures, c .before .rule-sync .ensures, c .before .before .rule-lss .ensures, c .before .before .before .rule-reported .ensures, c .before .before .before .before .rule-start .ensures, c .before .before .before .before .before .rule-marks .ensures) (left-open (c .before .before .before .before .before .before .before .before .before .before .before .args .s) (not-false _ (rw (c .before .before .before .before .before .before .before .before .before .before .rule-ids .ensures, c .before .before .before .before .before .before .before .before .before .rule-bits .ensures, c .before .before .before .before .before .before .before .before .rule-nmt .ensures, c .before .before .before .before .before .before .before .rule-ranges .ensures) at (c .before .before .before .before .before .before .if1 .left))))
+returns-2 c =
+    let c3 = c .before .before .before in
+    let c4 = c3 .before in
+    let c5 = c4 .before in
+    let c6 = c5 .before in
+    let c7 = c6 .before in
+    let c8 = c7 .before in
+    let c9 = c8 .before in
+    let c10 = c9 .before in
+    let c11 = c10 .before in
+    rw (c .rule-upload .ensures, c .before .rule-sync .ensures, c .before .before .rule-lss .ensures, c3 .rule-reported .ensures, c4 .rule-start .ensures, c5 .rule-marks .ensures) (left-open (c11 .args .s) (not-false _ (rw (c10 .rule-ids .ensures, c9 .rule-bits .ensures, c8 .rule-nmt .ensures, c7 .rule-ranges .ensures) at (c6 .if1 .left))))
 
 pub rules-spec : {M : Type 1} → statement M
 rules-spec =

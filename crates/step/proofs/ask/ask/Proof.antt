@@ -80,7 +80,9 @@ silent-requires-2 c κs = search needs
 
 returns : tie.Need-returns
 unfolding Step.changeOf Step.reply
-returns c = record { change = rw (c .before .before .before .v .given .1) (c .before .nmt-change .ensures); frames = rw (c .before .before .before .v .given .1) (c .silent .ensures) }
+returns c =
+    let c3 = c .before .before .before in
+    record { change = rw (c3 .v .given .1) (c .before .nmt-change .ensures); frames = rw (c3 .v .given .1) (c .silent .ensures) }
 
 returns-2 : tie.Need-returns-2
 unfolding Step.changeOf Step.reply Time.syncFrames
@@ -88,7 +90,9 @@ returns-2 c = record { change = rw (c .before .before .enum-told .given .1); fra
 
 returns-3 : tie.Need-returns-3
 unfolding Step.changeOf Step.reply Time.remoteFrames
-returns-3 c = record { change = rw (c .before .before .before .v2 .given .1); frames = rw (c .before .before .before .v2 .given .1, ← (c .before .answers-remote .ensures)) (c .tpdo-reply2 .ensures) }
+returns-3 c =
+    let c3 = c .before .before .before in
+    record { change = rw (c3 .v2 .given .1); frames = rw (c3 .v2 .given .1, ← (c .before .answers-remote .ensures)) (c .tpdo-reply2 .ensures) }
 
 returns-4 : tie.Need-returns-4
 unfolding Step.changeOf Step.reply
@@ -99,7 +103,9 @@ unfolding Step.changeOf Step.reply
 returns-5 c = record { change = rw (c .before .before .v4 .given .1) (c .ask-lss .ensures .change); frames = rw (c .before .before .v4 .given .1) (c .ask-lss .ensures .frames) }
 
 returns-6 : tie.Need-returns-6
-returns-6 c = others (c .before .before .before .args .v) (c .before .before .before .args .s) _ _ (c .before .before .before .pre .0) (c .before .match .keys6) (c .silent2 .ensures)
+returns-6 c =
+    let c3 = c .before .before .before in
+    others (c3 .args .v) (c3 .args .s) _ _ (c3 .pre .0) (c .before .match .keys6) (c .silent2 .ensures)
 
 pub ask-spec : {M : Type 1} → statement M
 ask-spec =

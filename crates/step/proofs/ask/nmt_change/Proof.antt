@@ -18,7 +18,9 @@ address-requires c κs = search needs
 
 returns-2 : tie.Need-returns-2
 unfolding Nmt.nmtChange Nmt.resetAsked firstHit
-returns-2 c = rw (← (c .before .before .before .is-for .ensures), not-false (c .before .before .before .is-for .result) (c .before .before .if1 .left), c .before .match .keys1, c .address .ensures)
+returns-2 c =
+    let c3 = c .before .before .before in
+    rw (← (c3 .is-for .ensures), not-false (c3 .is-for .result) (c .before .before .if1 .left), c .before .match .keys1, c .address .ensures)
 
 returns-3 : tie.Need-returns-3
 unfolding Nmt.nmtChange Nmt.resetAsked firstHit

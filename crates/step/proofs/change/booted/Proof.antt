@@ -7,7 +7,6 @@ use denote.Enum.Declared.{tagOf}
 use Rattle.model.proofs.Change.{the-type}
 use Rattle.model.specs.declared.Change.{Change}
 use Rattle.model.specs.declared.Change.the-variants.{Keep, Write, Save, TakeOut, Load, SavePending}
-use Rattle.model.specs.declared.Frame.{Frame}
 use Rattle.model.specs.Step as Step
 use borrow.Author.Needs.{needs}
 use Rattle.step.proofs.change.booted.Statement.{statement}

@@ -59,7 +59,9 @@ unfolding Step.coreAfter
 returns-2 c = rw (c .loaded .ensures, c .before .before .before .c2 .given .1)
 
 returns-3 : tie.Need-returns-3
-returns-3 c = rw (c .heard2 .ensures) (others (c .before .before .before .args .c) (c .before .before .before .args .v) (c .before .before .before .args .s) _ (c .before .before .before .args .k) (c .before .match .keys3))
+returns-3 c =
+    let c3 = c .before .before .before in
+    rw (c .heard2 .ensures) (others (c3 .args .c) (c3 .args .v) (c3 .args .s) _ (c3 .args .k) (c .before .match .keys3))
 
 pub core-after-spec : {M : Type 1} → statement M
 core-after-spec =
