@@ -1,30 +1,16 @@
--- The first code that is not 0, as code puts two lists of checks together, is that of the first check that is broken; and an accepted write
--- has the type of its parameter. Assumes nothing.
-use mathlib.Core.Path.{_≡_, refl, subst}
+-- The first code that is not 0, as code puts two lists of checks together, is that of the first check that is broken. Assumes nothing.
+use mathlib.Core.Path.{_≡_, refl}
 use mathlib.Core.Bool.{Bool, true, false, cond, not}
 use mathlib.Core.List.{List, [], _∷_, _++_}
 use Prim.Native.Nat.{ℕ}
-use lib.Dec.{eqb}
-use Rattle.model.specs.declared.Value.{Value}
 use Rattle.model.specs.declared.Kind.{Kind}
-use Rattle.model.specs.declared.Kind.the-variants as K
-use Rattle.model.specs.declared.Parameter.{Parameter}
 use Rattle.model.specs.declared.Verdict.{Verdict}
 use Rattle.model.specs.declared.Verdict.the-variants.{Inside, Outside, Above, Below}
-use Rattle.model.specs.declared.Entry.the-variants.{Fixed, Name, Shown, Setting, SaveWord, LoadWord}
-use Rattle.model.specs.declared.Found.{Found}
-use Rattle.model.specs.declared.Found.the-variants.{NoObject, NoSub, At}
-use Rattle.model.specs.declared.Change.{Change}
-use Rattle.model.specs.declared.Change.the-variants.{Keep, Write, Save, TakeOut, Load, SavePending}
-use Rattle.model.specs.declared.Checked.the-variants.{Refused, Accepted}
 use Rattle.model.specs.declared.State.{State}
 use Rattle.model.specs.Choice.{Arm, _⇒_, firstHit}
-use Rattle.model.specs.Values.{kindOf, typed}
-use Rattle.model.specs.Settings.{row, isInside}
-use Rattle.model.specs.Sdo.{locked, tooLong, tooShort, notValid, accepted, rangeCode, accessChecks, writeCode, asked, checkedWrite}
+use Rattle.model.specs.Settings.{isInside}
+use Rattle.model.specs.Sdo.{locked, tooLong, tooShort, notValid, accepted, rangeCode, accessChecks}
 use Rattle.dictionary.specs.Checks.{firstCode}
-
--- ---- Codes
 
 -- the access checks, then others
 in-turn : (a b c : Bool) (rest : List (Arm ℕ))
@@ -49,42 +35,3 @@ range-first Inside b = refl
 range-first Outside b = refl
 range-first Above b = refl
 range-first Below b = refl
-
--- ---- Accepted writes
-
-kind-of-typed : (k : Kind) (n : ℕ) → kindOf (typed k n) ≡ k
-kind-of-typed K.U8 n = refl
-kind-of-typed K.U16 n = refl
-kind-of-typed K.U32 n = refl
-kind-of-typed K.Integer32 n = refl
-kind-of-typed K.Real32 n = refl
-
--- if the change is a write, the value has the parameter's type
-abbrev Typed : Change → Type 0
-Typed Keep = Unit {0}
-Typed (Write p v) = kindOf v ≡ row p .kind
-Typed (Save gs) = Unit {0}
-Typed (TakeOut gs) = Unit {0}
-Typed (Load gs id) = Unit {0}
-Typed SavePending = Unit {0}
-
-typed-asked : (f : Found) (d : ℕ) → Typed (asked f d)
-typed-asked NoObject d = tt
-typed-asked NoSub d = tt
-typed-asked (At (Fixed v)) d = tt
-typed-asked (At Name) d = tt
-typed-asked (At (Shown l)) d = tt
-typed-asked (At (Setting p)) d = kind-of-typed (row p .kind) _
-typed-asked (At (SaveWord gs)) d = tt
-typed-asked (At (LoadWord gs)) d = tt
-
-accepted-is : (b : Bool) (c e : Change) (n : ℕ) → cond b (Accepted c) (Refused n) ≡ Accepted e → c ≡ e
-accepted-is true c e n h = cc
-accepted-is false c e n h = cc
-
-pub accepted-kind : (f : Found) (size d : ℕ) (s : State) (p : Parameter) (v : Value) → checkedWrite f size d s ≡ Accepted (Write p v)
-    → kindOf v ≡ row p .kind
-unfolding checkedWrite
-accepted-kind f size d s p v h =
-    let code = writeCode f size d s in
-    subst Typed (accepted-is (eqb code accepted) (asked f d) (Write p v) code h) (typed-asked f d)
