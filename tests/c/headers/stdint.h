@@ -1,0 +1,15 @@
+#ifndef STDINT_H
+#define STDINT_H
+typedef __UINT8_TYPE__ uint8_t;
+typedef __UINT16_TYPE__ uint16_t;
+typedef __UINT32_TYPE__ uint32_t;
+typedef __UINT64_TYPE__ uint64_t;
+typedef __UINTPTR_TYPE__ uintptr_t;
+typedef __INT8_TYPE__ int8_t;
+typedef __INT16_TYPE__ int16_t;
+typedef __INT32_TYPE__ int32_t;
+typedef __INT64_TYPE__ int64_t;
+#define UINT64_C(number) __UINT64_C(number)
+#define UINT32_MAX __UINT32_MAX__
+#define INT32_MAX __INT32_MAX__
+#endif
