@@ -50,6 +50,7 @@ static void print_place(FILE *to, int line)
 /* For a file that can't be read on. */
 static void stop(int line, const char *what, const char *text)
 {
+    fflush(stdout);
     print_place(stderr, line);
     fprintf(stderr, "%s: %s\n", what, text);
     exit(EXIT_FAILURE);
@@ -58,7 +59,15 @@ static void stop(int line, const char *what, const char *text)
 /* For a node that breaks the protocol, after which no reply means anything. */
 static void broken(const char *what, unsigned number)
 {
-    fprintf(stderr, "eds: the node %s %Xh\n", what, number);
+    fflush(stdout);
+    fprintf(stderr, "eds: the node %s %u\n", what, number);
+    exit(EXIT_FAILURE);
+}
+
+static void broken_at(const char *what, unsigned index, unsigned sub)
+{
+    fflush(stdout);
+    fprintf(stderr, "eds: the node %s %04Xh:%02X\n", what, index, sub);
     exit(EXIT_FAILURE);
 }
 
@@ -594,10 +603,10 @@ static void power_on(seumhwari_identity identity, uint8_t id)
     lss(0x04, 1, 0);
     const uint8_t *reply = lss(0x11, id, 0);
     if (reply == NULL || reply[0] != 0x11 || reply[1] != 0)
-        broken("did not take by LSS the Node-ID", id);
+        broken("did not take by LSS Node-ID", id);
     send(0, sizeof reset_communication, reset_communication);
     if (sent_on(0x700u + id, 1) == NULL)
-        broken("did not boot up as", id);
+        broken("did not boot up as Node-ID", id);
 }
 
 static void power_on_plain(uint8_t id)
@@ -628,11 +637,11 @@ static uint32_t ask(uint8_t command, unsigned index, unsigned sub, uint32_t data
     send(0x600u + now.id, sizeof request, request);
     *reply = sent_on(0x580u + now.id, sizeof request);
     if (*reply == NULL)
-        broken("did not reply to an SDO about", index << 8 | sub);
+        broken_at("did not reply to an SDO about", index, sub);
     if ((*reply)[0] != 0x80)
         return 0;
     if (memcmp(*reply + 1, request + 1, 3) != 0 || get32(*reply + 4) == 0)
-        broken("named something else when it aborted an SDO about", index << 8 | sub);
+        broken_at("named something else when it aborted an SDO about", index, sub);
     return get32(*reply + 4);
 }
 
@@ -665,13 +674,13 @@ static transfer upload(unsigned index, unsigned sub)
         return t;
     const uint8_t named[3] = { (uint8_t)index, (uint8_t)(index >> 8), (uint8_t)sub };
     if (memcmp(reply + 1, named, sizeof named) != 0)
-        broken("named something else when asked for", index << 8 | sub);
+        broken_at("named something else when asked for", index, sub);
     if (reply[0] == 0x41) {
         upload_segments(&t, get32(reply + 4));
         return t;
     }
     if (reply[0] != 0x4F && reply[0] != 0x4B && reply[0] != 0x43)
-        broken("answered an upload with the command byte", reply[0]);
+        broken_at("answered with an unknown command byte an upload of", index, sub);
     t.size = reply[0] == 0x4F ? 1 : reply[0] == 0x4B ? 2 : 4;
     memcpy(t.data, reply + 4, t.size);
     return t;
@@ -685,7 +694,7 @@ static uint32_t download(unsigned index, unsigned sub, unsigned size, uint32_t b
     const uint8_t taken[8] = { 0x60, (uint8_t)index, (uint8_t)(index >> 8), (uint8_t)sub };
     const uint32_t abort = ask(command, index, sub, bits, &reply);
     if (abort == 0 && memcmp(reply, taken, sizeof taken) != 0)
-        broken("confirmed a download with the command byte", reply[0]);
+        broken_at("confirmed in a wrong way a download to", index, sub);
     return abort;
 }
 
@@ -820,7 +829,7 @@ static void check_moves(void)
     const node plain = now;
     power_on(named, 65);
     if (download(0x6123, 1, 4, million) != 0 || download(0x6132, 1, 1, 4) != 0)
-        broken("did not take the settings of a capped reading at", 0x6123);
+        broken_at("did not take the settings of a capped reading at", 0x6123, 1);
     sample(12000);
     const node other = now;
     for (int i = 0; i < entry_count; i++) {
@@ -834,6 +843,24 @@ static void check_moves(void)
             ENTRY_DIFFERS(e, "expected %s, since the value %s; came %s", moved ? "ro" : "const",
                           moved ? "moves" : "never moves", e->access == RO ? "ro" : "const");
     }
+}
+
+/* Four bytes look alike whatever their type. The two readings tell theirs all the same: before the
+ * first sample the pressure is below zero, and only a Real32 and an Integer32 are then a power of
+ * ten apart. */
+static void check_readings(void)
+{
+    entry *real = find_entry(0x6130, 1), *integer = find_entry(0x9130, 1);
+    if (real == NULL || integer == NULL)
+        return;                  /* check_complete says so */
+    power_on_plain(1);
+    double due = worth(real->type, get32(upload(0x6130, 1).data));
+    const double came = worth(integer->type, get32(upload(0x9130, 1).data));
+    for (unsigned digits = upload(0x6132, 1).data[0]; digits > 0; digits--)
+        due *= 10;
+    if (due != came)
+        ENTRY_DIFFERS(integer, "DataType %04Xh makes it %.9g, expected %.9g by 6130h:01 with DataType %04Xh",
+                      integer->type, came, due, real->type);
 }
 
 /* ---- Writes */
@@ -1029,7 +1056,7 @@ static void check_bit_rates(void)
     for (uint8_t place = 0; place < sizeof keys / sizeof keys[0]; place++) {
         const uint8_t *reply = lss(0x13, 0, place);
         if (reply == NULL || reply[0] != 0x13)
-            broken("did not answer LSS about the bit rate", place);
+            broken("did not answer LSS about bit timing index", place);
         if (keys[place] != NULL)
             check_fact(keys[place], reply[1] == 0);
     }
@@ -1070,6 +1097,7 @@ int main(int count, char **words)
     for (unsigned i = 0; i < sizeof ids; i++)
         check_entries(ids[i]);
     check_moves();
+    check_readings();
     check_mapping();
     check_complete();
     check_device();
