@@ -132,9 +132,14 @@ pub flag-right : (s : State) → rules s ≡ true → isStopped (s .core) || not
 unfolding rules ruleReported
 flag-right s h = search (and-l, and-r) depth 9
 
+-- in a state that keeps the rules no EMCY is due
+pub quiet-state : (s : State) → rules s ≡ true → emcyDue s ≡ false
+unfolding emcyDue
+quiet-state s h = not-due (isStopped (s .core)) (differ (capped s) (s .core .reported)) (flag-right s h)
+
 quiet : (s : State) (st : List ℕ) → rules s ≡ true → emcyDue (served Keep Tick s st .state) ≡ false
 unfolding served coreAfter heard ticked emcyDue applied effect
-quiet s st h = not-due (isStopped (s .core)) (differ (capped s) (s .core .reported)) (flag-right s h)
+quiet s st h = quiet-state s h
 
 -- THE THEOREM: after a tick in a state that keeps the rules no EMCY is due, so that leaving it out of a tick loses nothing
 pub tick-quiet : (e : List ℕ) (s : State) (st : List ℕ) → service e ≡ Tick → rules s ≡ true → emcyDue (step e s st .state) ≡ false

@@ -1,8 +1,8 @@
 -- From what the parts of a call did to what the call gives. Assumes nothing.
 use mathlib.Core.Path.{_≡_, refl, sym, ap, _∙_, subst}
-use mathlib.Core.Bool.{Bool, true, cond}
+use mathlib.Core.Bool.{Bool, true, false, cond, false≢true}
 use mathlib.Core.List.{List, [], _∷_, _++_, append-nil}
-use Prim.Native.Nat.{ℕ}
+use Prim.Native.Nat.{ℕ, _≤_}
 use lib.Dec.{eqb}
 use lib.ListN.{length}
 use borrow.Author.Tests.{ne-eqb}
@@ -12,7 +12,10 @@ use Rattle.model.proofs.Service.{the-type}
 use Rattle.model.specs.declared.Service.{Service}
 use Rattle.model.specs.declared.Service.the-variants.{Nothing, Tick, Sample, Nmt, Sync, Remote, Sdo, Lss}
 use Rattle.model.specs.declared.Change.{Change}
+use Rattle.model.specs.declared.Change.the-variants.{Keep, Write, Save, TakeOut, Load, SavePending}
+use Rattle.model.specs.declared.Groups.the-variants.{Both}
 use Rattle.model.specs.declared.Frame.{Frame}
+use Rattle.model.specs.declared.Reply.{Reply}
 use Rattle.model.specs.declared.Identity.{Identity}
 use Rattle.model.specs.declared.State.{State}
 use Rattle.model.specs.declared.Answer.{Answer}
@@ -27,14 +30,23 @@ use Rattle.laws.proofs.Tests.{within-is}
 use Rattle.laws.proofs.Loading.{address-ok}
 use Rattle.laws.proofs.Allowed.{change-allowed}
 use Rattle.laws.proofs.RulesKept.{step-rules, power-on-rules}
+use Rattle.laws.proofs.Count.{quiet-state}
+use Rattle.lss.specs.Told.{partIn}
 use Rattle.lss.proofs.Asked.{asked-part}
+use Rattle.wire.proofs.Lay.{start}
 use Rattle.rules.specs.Fit.{Fit}
 use Rattle.rules.proofs.Fits.{fit}
-use Rattle.step.specs.Asked.{Suits}
+use Rattle.step.specs.Asked.{SizesFor, Suits, altersOf}
+use Rattle.image.specs.declared.Sizes.{Sizes}
 use Rattle.step.proofs.Suit.{suits}
-use Rattle.output.specs.Sent.{Done, emcyOf, reportedNow}
+use Rattle.output.specs.declared.Sent.{Sent}
+use Rattle.output.specs.Sent.{Done, Leaves, emcyOf, reportedNow}
 use Rattle.output.proofs.Ticks.{laid-as}
-use Rattle.node.specs.Gives.{Gives, turnedAway, asked, Servable, firstLoad}
+use Rattle.node.specs.Gives.{Gives, turnedAway, left, asked, keptIn, IsReply, Staying, Turning}
+
+-- the load of a power-on
+abbrev pub firstLoad : List ℕ → Change
+firstLoad st = Load Both (addressFrom (read st) .id)
 
 -- ---- The state that EMCY is judged on: the reported flag alone is not yet right
 
@@ -55,17 +67,13 @@ fit-served : (c : Change) (v : Service) (s : State) (st : List ℕ) → rules (s
 unfolding served
 fit-served c v s st r = fit-before (changed c v s (read st)) _ r
 
-pub fit-asked : (v : Service) (s : State) (st : List ℕ) (c : Change) (t : State) → rules (asked v s st .state) ≡ true
-    → c ≡ changeOf v s (read st) → t ≡ changed c v s (read st) → Fit t
-fit-asked v s st c t r k e = rw (e, k) (fit-served (changeOf v s (read st)) v s st r)
+pub fit-asked : (v : Service) (s : State) (st : List ℕ) (c : Change) → rules (asked v s st .state) ≡ true → c ≡ changeOf v s (read st)
+    → Fit (changed c v s (read st))
+fit-asked v s st c r k = rw k (fit-served (changeOf v s (read st)) v s st r)
 
-pub woken : (i : Identity) (st : List ℕ) (c : Change) (t : State) → c ≡ firstLoad st → t ≡ changed c Nothing (unborn i) (read st)
-    → t ≡ changed (firstLoad st) Nothing (unborn i) (read st)
-woken i st c t k e = e ∙ ap (λ (d : Change). changed d Nothing (unborn i) (read st)) k
-
-pub fit-awake : (i : Identity) (st : List ℕ) (c : Change) (t : State) → c ≡ firstLoad st → t ≡ changed c Nothing (unborn i) (read st) → Fit t
+pub fit-awake : (i : Identity) (st : List ℕ) (c : Change) → c ≡ firstLoad st → Fit (changed c Nothing (unborn i) (read st))
 unfolding powerOn
-fit-awake i st c t k e = rw (woken i st c t k e) (fit-served (firstLoad st) Nothing (unborn i) st (power-on-rules i st))
+fit-awake i st c k = rw k (fit-served (firstLoad st) Nothing (unborn i) st (power-on-rules i st))
 
 -- ---- The change suits its code
 
@@ -97,16 +105,48 @@ pub gives-served : (c : Change) (v : Service) (s : State) (st : List ℕ) {fs gs
 unfolding served
 gives-served c v s st other a b e k d = gives (served c v s st) (done-as (rw (other, a, b, e)) (rw (other, e)) d) k
 
+-- what was sent and left is done
+stayed-done : {fs : List Frame} {t : State} {xs ys : List ℕ} {r : Sent} → Leaves fs (t .core) xs ys r → Done fs t xs ys (left r t)
+stayed-done {t} l = record { number = refl; laid = l .laid; state = ap (withCore t) (l .core) }
+
 -- the same for a change that is this one
 pub of-change : {c d : Change} (v : Service) (s : State) (st xs : List ℕ) {ys zs : List ℕ} {r : Answer} → c ≡ d
     → Gives (given (served c v s st) xs) r ys zs → Gives (given (served d v s st) xs) r ys zs
 of-change v s st xs {ys} {zs} {r} e g = subst (λ (b : Change). Gives (given (served b v s st) xs) r ys zs) e g
 
 -- a tick
-pub gives-tick : (s : State) (st : List ℕ) {xs ys : List ℕ} {r : Answer} → Done (tickFrames s) (withCore s (ticked s)) xs ys r
-    → Gives (given (asked Tick s st) xs) r ys st
+pub gives-tick : (s : State) (st : List ℕ) {xs ys : List ℕ} {r : Sent} → Leaves (tickFrames s) (ticked s) xs ys r
+    → Gives (given (asked Tick s st) xs) (left r s) ys st
 unfolding served changeOf reply coreAfter heard applied effect stored
-gives-tick s st d = gives (asked Tick s st) (done-as (sym (append-nil (tickFrames s))) refl d) refl
+gives-tick s st l =
+    gives (asked Tick s st) (record { number = refl; laid = laid-as (l .laid) (sym (append-nil (tickFrames s))); state = ap (withCore s) (l .core) }) refl
+
+-- a frame that no service owns: nothing is sent, and no EMCY is due
+pub gives-nothing : (s : State) (xs st : List ℕ) → rules s ≡ true → Gives (given (asked Nothing s st) xs) (turnedAway 0 s) xs st
+unfolding served changeOf reply coreAfter heard applied effect stored
+gives-nothing s xs st r = rw (quiet-state s r) (record { answer = refl; output = start xs .bytes; store = refl })
+
+-- a service whose change leaves the parameters
+pub gives-stayed : (c : Change) (v : Service) (s : State) (st : List ℕ) {fs : List Frame} {xs ys zs : List ℕ} {r : Sent} → altersOf c ≡ false
+    → reports v ≡ true → fs ≡ reply v s → zs ≡ stored c s st → Leaves (fs ++ emcyOf (keptIn v s)) (reportedNow (keptIn v s) .core) xs ys r
+    → Gives (given (served c v s st) xs) (left r s) ys zs
+unfolding coreAfter applied effect
+gives-stayed Keep v s st a other e k l = gives-served Keep v s st other e refl refl k (stayed-done l)
+gives-stayed (Write p x) v s st a other e k l = absurd (false≢true (sym a))
+gives-stayed (Save gs) v s st a other e k l = gives-served (Save gs) v s st other e refl refl k (stayed-done l)
+gives-stayed (TakeOut gs) v s st a other e k l = absurd (false≢true (sym a))
+gives-stayed (Load gs id) v s st a other e k l = absurd (false≢true (sym a))
+gives-stayed SavePending v s st a other e k l = gives-served SavePending v s st other e refl refl k (stayed-done l)
+
+-- the state after it, but for EMCY
+pub fit-stayed : (c : Change) (v : Service) (s : State) (st : List ℕ) → altersOf c ≡ false → Fit (changed c v s (read st)) → Fit (keptIn v s)
+unfolding coreAfter applied effect
+fit-stayed Keep v s st a f = f
+fit-stayed (Write p x) v s st a f = absurd (false≢true (sym a))
+fit-stayed (Save gs) v s st a f = f
+fit-stayed (TakeOut gs) v s st a f = absurd (false≢true (sym a))
+fit-stayed (Load gs id) v s st a f = absurd (false≢true (sym a))
+fit-stayed SavePending v s st a f = f
 
 -- ---- The event
 
@@ -125,9 +165,9 @@ event-refused e s out st n a z =
     subst (λ (m : ℕ). Gives (cond (eqb m 0) (given (step e s st) out) (refused m s out st)) (turnedAway n s) out st) a
     (rw (ne-eqb n 0 z) (record { answer = refl; output = refl; store = refl }))
 
--- the services that are no tick, by their numbers
+-- the services that `ask` serves, by their numbers
 abbrev pub others : List ℕ
-others = 0 ∷ 2 ∷ 3 ∷ 4 ∷ 5 ∷ 6 ∷ 7 ∷ []
+others = 2 ∷ 3 ∷ 4 ∷ 5 ∷ 6 ∷ 7 ∷ []
 
 pub no-tick : (v : Service) → OneOf others (tagOf the-type v) → reports v ≡ true
 no-tick Nothing h = refl
@@ -139,36 +179,47 @@ no-tick (Remote to) h = refl
 no-tick (Sdo to q) h = refl
 no-tick (Lss q) h = refl
 
--- what `serve` may count on
-pub servable : (e : List ℕ) (s : State) (st : List ℕ) (v : Service) → v ≡ service e → reports v ≡ true → rules s ≡ true → length st ≡ 64
-    → Servable v s st
+-- the rules hold after an event's service
+pub rules-after : (e : List ℕ) (s : State) (st : List ℕ) (v : Service) → v ≡ service e → rules s ≡ true → rules (asked v s st .state) ≡ true
 unfolding step
-servable e s st v k other r size =
+rules-after e s st v k r = rw k (step-rules e s st r)
+
+pub part-ok : (e : List ℕ) (v : Service) → v ≡ service e → partIn v ≤ 3
+part-ok e v k = rw k (asked-part e)
+
+-- what the parts may count on
+pub turning : (e : List ℕ) (s : State) (st : List ℕ) (v : Service) (c : Change) (z : Sizes) → v ≡ service e → rules s ≡ true → length st ≡ 64
+    → c ≡ changeOf v s (read st) → SizesFor c st z → Turning c z v s st
+turning e s st v c z h r size k told =
     record {
-      other = other;
-      part = rw k (asked-part e);
-      kept = r;
-      after = rw k (step-rules e s st r);
+      suits = suits-asked v s st c r k;
+      sizes = told;
+      before = fit s r;
+      after = fit-asked v s st c (rules-after e s st v h r) k;
       size = size;
     }
 
--- ---- The power-on
+pub staying : (e : List ℕ) (s : State) (st : List ℕ) (v : Service) (c : Change) {q : Reply} → v ≡ service e → rules s ≡ true → altersOf c ≡ false
+    → c ≡ changeOf v s (read st) → IsReply v q s → Staying v q s
+staying e s st v c h r a k q =
+    record { answer = q; kept = r; after = fit-stayed c v s st a (fit-asked v s st c (rules-after e s st v h r) k) }
 
-pub power-on-done : (i : Identity) (out st : List ℕ) (n : ℕ) {r : Answer} {ys : List ℕ} → n ≡ powerOnRefusal (length out) (length st) → n ≡ 0
-    → Gives (given (served (firstLoad st) Nothing (unborn i) st) out) r ys st → Gives (powerOnAnswer i out st) r ys st
-unfolding powerOnAnswer powerOn
-power-on-done i out st n {r} {ys} a z g =
-    subst (λ (m : ℕ). Gives (cond (eqb m 0) (given (powerOn i st) out) (refused m (powerOn i zeroStore .state) out st)) r ys st) (sym z ∙ a) g
+-- ---- The power-on
 
 -- its load leaves the store
 pub load-leaves : (i : Identity) (st : List ℕ) (c : Change) → c ≡ firstLoad st → st ≡ stored c (unborn i) st
 unfolding stored
 load-leaves i st c k = rw k refl
 
+pub power-on-done : (i : Identity) (out st : List ℕ) (n : ℕ) {r : Answer} {ys : List ℕ} → n ≡ powerOnRefusal (length out) (length st) → n ≡ 0
+    → Gives (given (powerOn i st) out) r ys st → Gives (powerOnAnswer i out st) r ys st
+unfolding powerOnAnswer
+power-on-done i out st n {r} {ys} a z g =
+    subst (λ (m : ℕ). Gives (cond (eqb m 0) (given (powerOn i st) out) (refused m (powerOn i zeroStore .state) out st)) r ys st) (sym z ∙ a) g
+
 pub power-on-refused : (i : Identity) (out st : List ℕ) (n : ℕ) {t : State} → n ≡ powerOnRefusal (length out) (length st) → (n ≡ 0 → ⊥)
-    → t ≡ reportedNow (changed (firstLoad zeroStore) Nothing (unborn i) (read zeroStore))
-    → Gives (powerOnAnswer i out st) (turnedAway n t) out st
-unfolding powerOnAnswer powerOn served
+    → t ≡ powerOn i zeroStore .state → Gives (powerOnAnswer i out st) (turnedAway n t) out st
+unfolding powerOnAnswer
 power-on-refused i out st n {t} a z k =
     subst (λ (m : ℕ). Gives (cond (eqb m 0) (given (powerOn i st) out) (refused m (powerOn i zeroStore .state) out st)) (turnedAway n t) out st) a
     (rw (ne-eqb n 0 z) (record { answer = rw k; output = refl; store = refl }))

@@ -1,19 +1,24 @@
--- What the two calls give, and the parts that they are put together of. Assumes nothing.
-use Prim.Native.Nat.{ℕ, _≤_}
+-- What the two calls give, and what their parts may count on. Assumes nothing.
+use Prim.Native.Nat.{ℕ}
 use mathlib.Core.Path.{_≡_}
-use mathlib.Core.Bool.{true}
+use mathlib.Core.Bool.{Bool, true, false}
 use mathlib.Core.List.{List}
 use lib.ListN.{length}
 use Rattle.model.specs.declared.Service.{Service}
+use Rattle.model.specs.declared.Service.the-variants.{Nothing, Tick, Sample, Nmt, Sync, Remote, Sdo, Lss}
 use Rattle.model.specs.declared.Change.{Change}
-use Rattle.model.specs.declared.Change.the-variants.{Load}
-use Rattle.model.specs.declared.Groups.the-variants.{Both}
+use Rattle.model.specs.declared.Reply.{Reply}
 use Rattle.model.specs.declared.State.{State}
 use Rattle.model.specs.declared.Answer.{Answer}
-use Rattle.model.specs.Store.{read, addressFrom}
+use Rattle.model.specs.Frames.{framesOf}
+use Rattle.model.specs.Store.{read}
+use Rattle.model.specs.Parts.{withCore}
 use Rattle.model.specs.Rules.{rules}
-use Rattle.model.specs.Step.{Outcome, Answered, changeOf, reports, served}
-use Rattle.lss.specs.Told.{partIn}
+use Rattle.model.specs.Step.{Outcome, Answered, done, changeOf, reply, heard, changed, reports, served}
+use Rattle.image.specs.declared.Sizes.{Sizes}
+use Rattle.rules.specs.Fit.{Fit}
+use Rattle.output.specs.declared.Sent.{Sent}
+use Rattle.step.specs.Asked.{SizesFor, Suits}
 
 -- ---- The calls
 
@@ -29,18 +34,44 @@ pub record Gives (o : Answered) (r : Answer) (ys zs : List ℕ) : Type 0 where
 abbrev pub turnedAway : ℕ → State → Answer
 turnedAway n s = record { number = n; count = 0; state = s }
 
+-- the answer of a call that has left the parameters
+abbrev pub left : Sent → State → Answer
+left r s = record { number = done; count = r .count; state = withCore s (r .core) }
+
 -- what a service comes to
 abbrev pub asked : Service → State → List ℕ → Outcome
 asked v s st = served (changeOf v s (read st)) v s st
 
--- what `serve` may count on: any service of an event but a tick, in a state that keeps the rules, and does so afterwards
-pub record Servable (v : Service) (s : State) (st : List ℕ) : Type 0 where
-  pub other : reports v ≡ true
-  pub part : partIn v ≤ 3
-  pub kept : rules s ≡ true
-  pub after : rules (asked v s st .state) ≡ true
-  pub size : length st ≡ 64
+-- a service moves FV or the NMT state, by which EMCY is judged
+abbrev pub movesOf : Service → Bool
+movesOf Nothing = false
+movesOf Tick = false
+movesOf (Sample fv) = true
+movesOf (Nmt command to) = true
+movesOf Sync = false
+movesOf (Remote to) = false
+movesOf (Sdo to r) = false
+movesOf (Lss r) = false
 
--- the load of a power-on
-abbrev pub firstLoad : List ℕ → Change
-firstLoad st = Load Both (addressFrom (read st) .id)
+-- the state after a service that leaves the parameters, but for EMCY
+abbrev pub keptIn : Service → State → State
+keptIn v s = withCore s (heard v s)
+
+-- this is the reply of a service that is no tick
+pub record IsReply (v : Service) (r : Reply) (s : State) : Type 0 where
+  pub other : reports v ≡ true
+  pub frames : framesOf r ≡ reply v s
+
+-- what `stayed` may count on
+pub record Staying (v : Service) (r : Reply) (s : State) : Type 0 where
+  pub answer : IsReply v r s
+  pub kept : rules s ≡ true
+  pub after : Fit (keptIn v s)
+
+-- what `turned` may count on
+pub record Turning (c : Change) (z : Sizes) (v : Service) (s : State) (st : List ℕ) : Type 0 where
+  pub suits : Suits c
+  pub sizes : SizesFor c st z
+  pub before : Fit s
+  pub after : Fit (changed c v s (read st))
+  pub size : length st ≡ 64

@@ -1,4 +1,5 @@
 // The node: power-on, and one event. What users call.
+use image::Sizes;
 use model::Address;
 use model::Answer;
 use model::Change;
@@ -6,14 +7,16 @@ use model::Core;
 use model::Fv;
 use model::Groups;
 use model::Identity;
+use model::Reply;
 use model::Selection;
 use model::Sending;
 use model::Service;
 use model::State;
 use model::Timers;
 use model::Upload;
-use output::finish;
+use output::Sent;
 use output::judge;
+use output::send;
 use output::tick;
 use rules::power_on_refusal;
 use rules::refusal;
@@ -21,33 +24,134 @@ use service::service;
 use settings::table::defaults;
 use step::ask::ask;
 use step::ask::silent;
+use step::change::alters;
 use step::change::booted;
-use step::change::changed;
+use step::change::core_after;
 use step::change::keep;
-use store::load::address;
+use step::change::settled;
+use step::heard::heard;
+use store::load::address_sized;
+use store::saved::saved_sizes;
+use wire::frames::emit;
 ghost use mathlib.Core.Path.{_≡_};
+ghost use mathlib.Core.List.{_++_};
 ghost use Prim.Native.Nat.{_≤_};
 ghost use lib.ListN.{length};
-ghost use Rattle.model.specs.declared.Service.the-variants as Service;
+ghost use Rattle.model.specs.Frames.{framesOf};
 ghost use Rattle.model.specs.Store.{read};
 ghost use Rattle.model.specs.Step as Step;
-ghost use Rattle.step.specs.Asked.{Suits};
-ghost use Rattle.node.specs.Gives.{Gives, turnedAway, asked, Servable, firstLoad};
+ghost use Rattle.output.specs.Sent.{Leaves, Done, emcyOf, reportedNow};
+ghost use Rattle.node.specs.Gives.{Gives, turnedAway, left, movesOf, keptIn, IsReply, Staying, Turning};
 
-// ---- A service but a tick
+// ---- A service that leaves the parameters
 
-// What it is asked, the state and the store after that, and what it sends.
-fn serve(v: Service, s: State, out: &mut [u8], store: &mut [u8]) -> Answer
-    requires { ⌜ Servable v s (now store) × (48 ≤ length (now out)) ⌝ }
-    ensures { λ r. ⌜ Gives (Step.given (asked v s (now (store .entry))) (now (out .entry))) r (now (out .exit)) (now (store .exit)) ⌝ }
+// The answer of a call that is done and has left them.
+fn answered(sent: Sent, s: State) -> Answer
+    ensures { λ r. ⌜ r ≡ left sent s ⌝ }
 {
-    let asked = ask(v, s, store);
-    let c = asked.change;
-    let reply = asked.reply;
-    let t = changed(c, v, s, store);
+    let identity = s.identity;
+    let settings = s.settings;
+    let core = sent.core;
+    let state = State {
+        identity,
+        settings,
+        core,
+    };
+    Answer {
+        number: 0,
+        count: sent.count,
+        state,
+    }
+}
+
+// Whether a service moves what EMCY is judged by: FV, or the NMT state.
+fn moves(v: Service) -> bool
+    ensures { λ r. ⌜ r ≡ movesOf v ⌝ }
+{
+    match v {
+        Service::Sample(_) => true,
+        Service::Nmt { .. } => true,
+        _ => false,
+    }
+}
+
+// The core after such a service, and what is sent: EMCY where it can be due (a sample and an NMT command have no reply), else the reply.
+fn stayed(v: Service, reply: Reply, s: State, out: &mut [u8]) -> Sent
+    requires { ⌜ Staying v reply s × (48 ≤ length (now out)) ⌝ }
+    ensures { λ r. ⌜ Leaves (framesOf reply ++ emcyOf (keptIn v s)) (reportedNow (keptIn v s) .core) (now (out .entry)) (now (out .exit)) r ⌝ }
+{
+    let mut core = heard(v, s);
+    if moves(v) {
+        let application = s.settings.application;
+        let judged = judge(application, core);
+        let emcy = judged.emcy;
+        let n = emit(out, 0, emcy.send, emcy.frame);
+        core.reported = judged.reported;
+        return Sent {
+            count: n as u8,
+            core,
+        };
+    }
+    let n = emit(out, 0, reply.send, reply.frame);
+    Sent {
+        count: n as u8,
+        core,
+    }
+}
+
+// ---- A change that touches the parameters
+
+// Those after it, the rest of the state, and what is sent. The store is read where the change is a load, of which z are the sizes.
+fn turned(
+    c: Change,
+    z: Sizes,
+    reply: Reply,
+    v: Service,
+    s: State,
+    out: &mut [u8],
+    store: &[u8],
+) -> Answer
+    requires { ⌜ Turning c z v s (now store) × (48 ≤ length (now out)) ⌝ }
+    ensures { λ r. ⌜ Done (framesOf reply ++ (Step.booted c ++ emcyOf (Step.changed c v s (read (now (store .entry)))))) (reportedNow (Step.changed c v s (read (now (store .entry))))) (now (out .entry)) (now (out .exit)) r ⌝ }
+{
+    let old = s.settings;
+    let settings = settled(c, old, store, z);
+    let mut core = core_after(c, v, s, settings, store, z);
+    let application = settings.application;
+    let judged = judge(application, core);
     let boot = booted(c);
+    let emcy = judged.emcy;
+    let count = send(reply, boot, emcy, out);
+    core.reported = judged.reported;
+    let identity = s.identity;
+    let state = State {
+        identity,
+        settings,
+        core,
+    };
+    Answer {
+        number: 0,
+        count,
+        state,
+    }
+}
+
+// The same, and the store after it.
+fn altered(
+    c: Change,
+    z: Sizes,
+    reply: Reply,
+    v: Service,
+    s: State,
+    out: &mut [u8],
+    store: &mut [u8],
+) -> Answer
+    requires { ⌜ Turning c z v s (now store) × (IsReply v reply s × (48 ≤ length (now out))) ⌝ }
+    ensures { λ r. ⌜ Gives (Step.given (Step.served c v s (now (store .entry))) (now (out .entry))) r (now (out .exit)) (now (store .exit)) ⌝ }
+{
+    let answer = turned(c, z, reply, v, s, out, store);
     keep(c, s, store);
-    finish(reply, boot, t, out)
+    answer
 }
 
 // ---- Refusals
@@ -103,39 +207,31 @@ fn unborn(identity: Identity) -> State
     }
 }
 
-// The load of a power-on: both groups, under the ID saved in N.
-fn first_load(store: &[u8]) -> Change
-    requires { ⌜ length (now store) ≡ 64 ⌝ }
-    ensures { λ r. ⌜ r ≡ firstLoad (now (store .entry)) ⌝ }
+// The node as the load of a power-on leaves it: both groups, under the ID saved in N, with its boot-up and EMCY.
+fn wake(identity: Identity, out: &mut [u8], store: &[u8]) -> Answer
+    requires { ⌜ (length (now store) ≡ 64) × (48 ≤ length (now out)) ⌝ }
+    ensures { λ r. ⌜ Gives (Step.given (Step.powerOn identity (now (store .entry))) (now (out .entry))) r (now (out .exit)) (now (store .entry)) ⌝ }
 {
-    let saved = address(store);
-    Change::Load(Groups::Both, saved.id)
+    let z = saved_sizes(store);
+    let saved = address_sized(store, z);
+    let c = Change::Load(Groups::Both, saved.id);
+    let s = unborn(identity);
+    turned(c, z, silent(), Service::Nothing, s, out, store)
 }
 
-// The state after it, but for EMCY.
-fn awake(identity: Identity, c: Change, store: &[u8]) -> State
-    requires { ⌜ Suits c × (length (now store) ≡ 64) ⌝ }
-    ensures { λ r. ⌜ r ≡ Step.changed c Service.Nothing (Step.unborn identity) (read (now (store .entry))) ⌝ }
-{
-    changed(c, Service::Nothing, unborn(identity), store)
-}
-
-// Power-on. A refused one hands back the state that a store of zeros gives.
+// Power-on. A refused one hands back the state that a store of zeros gives, and what that would send goes nowhere.
 pub fn power_on(identity: Identity, out: &mut [u8], store: &[u8]) -> Answer
     ensures { λ r. ⌜ Gives (Step.powerOnAnswer identity (now (out .entry)) (now (store .entry))) r (now (out .exit)) (now (store .entry)) ⌝ }
 {
     let number = power_on_refusal(out.len(), store.len());
     if number != 0 {
         let zeros = [0u8; 64];
-        let t = awake(identity, first_load(&zeros), &zeros);
-        let judged = judge(t);
-        let state = judged.state;
+        let mut nowhere = [0u8; 48];
+        let woken = wake(identity, &mut nowhere, &zeros);
+        let state = woken.state;
         return refused(number, state);
     }
-    let c = first_load(store);
-    let t = awake(identity, c, store);
-    let boot = booted(c);
-    finish(silent(), boot, t, out)
+    wake(identity, out, store)
 }
 
 // ---- One event
@@ -150,7 +246,18 @@ pub fn event(event: &[u8], state: State, out: &mut [u8], store: &mut [u8]) -> An
     }
     let v = service(event);
     match v {
-        Service::Tick => tick(state, out),
-        _ => serve(v, state, out, store),
+        Service::Nothing => refused(0, state),
+        Service::Tick => answered(tick(state, out), state),
+        _ => {
+            let asked = ask(v, state, store);
+            let c = asked.change;
+            let reply = asked.reply;
+            if alters(c) {
+                let z = asked.sizes;
+                return altered(c, z, reply, v, state, out, store);
+            }
+            keep(c, state, store);
+            answered(stayed(v, reply, state, out), state)
+        }
     }
 }

@@ -1,8 +1,11 @@
-// What an event sends, laid into the output: the reply, the boot-up and EMCY, or the frames of a tick; and the answer.
-use model::Answer;
+// What an event sends, laid into the output: the reply, the boot-up and EMCY, or the frames of a tick.
+use model::Application;
+use model::Core;
 use model::Frame;
 use model::Reply;
 use model::State;
+use reading::integer_pv;
+use reading::to_pv;
 use time::frames::emcy_due;
 use time::frames::emcy_frame;
 use time::frames::heartbeat_frame;
@@ -22,19 +25,18 @@ ghost use Prim.Native.Nat.{_≤_};
 ghost use lib.ListN.{length};
 ghost use Rattle.model.specs.Frames as Frames;
 ghost use Rattle.model.specs.Frames.{framesOf};
-ghost use Rattle.model.specs.Parts.{withCore};
 ghost use Rattle.model.specs.Time as Time;
 ghost use Rattle.wire.specs.Laid.{Laid};
 ghost use Rattle.time.specs.Told.{dueOf};
 ghost use Rattle.rules.specs.Fit.{Fit};
-ghost use Rattle.output.specs.Sent.{Done, emcyOf, reportedNow, IsJudged};
+ghost use Rattle.output.specs.Sent.{Leaves, emcyOf, reportedNow, IsJudged};
 
 // ---- EMCY
 
-// EMCY as a state is judged: the frame where it is due, and the state with the reported flag.
+// EMCY where it is due, and the reported flag after that.
 pub struct Judged {
     pub emcy: Reply,
-    pub state: State,
+    pub reported: bool,
 }
 
 // The reported flag: what an EMCY that is due tells.
@@ -44,38 +46,30 @@ fn reported_after(due: bool, capped: bool, reported: bool) -> bool
     if due { capped } else { reported }
 }
 
-// A state is judged by its present reading.
-pub fn judge(t: State) -> Judged
-    requires { ⌜ Fit t ⌝ }
-    ensures { λ r. ⌜ IsJudged t r ⌝ }
+// A state is judged by its present reading: of its parameters only those of group A count.
+pub fn judge(a: Application, c: Core) -> Judged
+    requires { ⌜ (a .digits ≤ 4) × (c .active .id ≤ 127) ⌝ }
+    ensures { λ r. ⌜ ((t : State) → t .settings .application ≡ a → t .core ≡ c → IsJudged t r) ⌝ }
 {
-    let reading = reading_of(t);
-    let capped = reading.integer.capped;
-    let send = emcy_due(t.core.nmt, capped, t.core.reported);
-    let frame = emcy_frame(t.core.active.id, capped);
+    let scaling = a.scaling;
+    let fv = c.fv;
+    let integer = integer_pv(to_pv(scaling, fv), a.digits);
+    let send = emcy_due(c.nmt, integer.capped, c.reported);
+    let frame = emcy_frame(c.active.id, integer.capped);
     let emcy = Reply { send, frame };
-    let reported = reported_after(send, capped, t.core.reported);
-    let mut state = t;
-    state.core.reported = reported;
-    Judged { emcy, state }
+    let reported = reported_after(send, integer.capped, c.reported);
+    Judged { emcy, reported }
 }
 
-// The reply and the boot-up go out, and last the EMCY, judged on the state t after them.
-pub fn finish(reply: Reply, boot: Reply, t: State, out: &mut [u8]) -> Answer
-    requires { ⌜ Fit t × (48 ≤ length (now out)) ⌝ }
-    ensures { λ r. ⌜ Done (framesOf reply ++ (framesOf boot ++ emcyOf t)) (reportedNow t) (now (out .entry)) (now (out .exit)) r ⌝ }
+// The reply and the boot-up go out, and last the EMCY; how many that were.
+pub fn send(reply: Reply, boot: Reply, emcy: Reply, out: &mut [u8]) -> u8
+    requires { ⌜ 48 ≤ length (now out) ⌝ }
+    ensures { λ r. ⌜ Laid ((framesOf reply ++ framesOf boot) ++ framesOf emcy) (now (out .entry)) (now (out .exit)) r ⌝ }
 {
-    let judged = judge(t);
-    let emcy = judged.emcy;
-    let state = judged.state;
     let n1 = emit(out, 0, reply.send, reply.frame);
     let n2 = emit(out, n1, boot.send, boot.frame);
     let n3 = emit(out, n2, emcy.send, emcy.frame);
-    Answer {
-        number: 0,
-        count: n3 as u8,
-        state,
-    }
+    n3 as u8
 }
 
 // ---- A tick
@@ -123,20 +117,24 @@ fn send_due(s: State, due: Due, out: &mut [u8]) -> usize
     )
 }
 
+// What an event that leaves the parameters comes to: how many frames went out, and the core after it.
+pub struct Sent {
+    pub count: u8,
+    pub core: Core,
+}
+
 // The clock moves, and what is due goes out and starts anew. No EMCY can be due.
-pub fn tick(s: State, out: &mut [u8]) -> Answer
+pub fn tick(s: State, out: &mut [u8]) -> Sent
     requires { ⌜ Fit s × (48 ≤ length (now out)) ⌝ }
-    ensures { λ r. ⌜ Done (Time.tickFrames s) (withCore s (Time.ticked s)) (now (out .entry)) (now (out .exit)) r ⌝ }
+    ensures { λ r. ⌜ Leaves (Time.tickFrames s) (Time.ticked s) (now (out .entry)) (now (out .exit)) r ⌝ }
 {
-    let mut state = clocked(s);
+    let state = clocked(s);
     let due = due_of(state);
     let n = send_due(s, due, out);
     let old = state.core;
     let core = fired(due, old);
-    state.core = core;
-    Answer {
-        number: 0,
+    Sent {
         count: n as u8,
-        state,
+        core,
     }
 }

@@ -1,6 +1,7 @@
 // The state and the store after a change. Nothing else touches the saved parameters or the store.
 use super::ask::silent;
 use super::heard::heard;
+use image::Sizes;
 use model::Change;
 use model::Core;
 use model::Groups;
@@ -12,8 +13,8 @@ use nmt::boot_up;
 use nmt::reset;
 use settings::change::take_out;
 use settings::change::write;
-use store::load::address;
-use store::load::load;
+use store::load::address_sized;
+use store::load::load_sized;
 use store::write::readdress;
 use store::write::save;
 use time::restarts::restart;
@@ -26,58 +27,55 @@ ghost use Rattle.model.specs.Changes.{applied, stored};
 ghost use Rattle.model.specs.Nmt as Nmt;
 ghost use Rattle.model.specs.Step as Step;
 ghost use Rattle.rules.specs.Fit.{Fit};
-ghost use Rattle.step.specs.Asked.{Suits};
+ghost use Rattle.store.specs.Saved.{Kept};
+ghost use Rattle.step.specs.Asked.{Suits, SizesFor, altersOf};
 
-// The parameters after it.
-fn settled(c: Change, k: Settings, store: &[u8]) -> Settings
-    requires { ⌜ Suits c × (length (now store) ≡ 64) ⌝ }
+// The parameters after it. For a load, z are the sizes of what is saved.
+pub fn settled(c: Change, k: Settings, store: &[u8], z: Sizes) -> Settings
+    requires { ⌜ Suits c × (SizesFor c (now store) z × (length (now store) ≡ 64)) ⌝ }
     ensures { λ r. ⌜ r ≡ applied c k (read (now (store .entry))) ⌝ }
 {
     match c {
         Change::Write(p, x) => write(k, p, x),
         Change::TakeOut(gs) => take_out(k, gs),
-        Change::Load(gs, id) => load(gs, id, k, store),
+        Change::Load(gs, id) => load_sized(gs, id, k, store, z),
         _ => k,
     }
 }
 
 // The rest of the state after a load, with the parameters k that were loaded: it is a reset.
-fn loaded(gs: Groups, id: u8, k: Settings, c: Core, store: &[u8]) -> Core
-    requires { ⌜ length (now store) ≡ 64 ⌝ }
+fn loaded(gs: Groups, id: u8, k: Settings, c: Core, store: &[u8], z: Sizes) -> Core
+    requires { ⌜ (length (now store) ≡ 64) × Kept (now store) z ⌝ }
     ensures { λ r. ⌜ r ≡ Nmt.reset gs id (read (now (store .entry))) k c ⌝ }
 {
-    let saved = address(store);
+    let saved = address_sized(store, z);
     reset(gs, id, saved.bit, k, c)
 }
 
 // The rest of the state after a service and its change, with the parameters k after that: a written period or type restarts its timer.
-fn core_after(c: Change, v: Service, s: State, k: Settings, store: &[u8]) -> Core
-    requires { ⌜ Fit s × (length (now store) ≡ 64) ⌝ }
+pub fn core_after(c: Change, v: Service, s: State, k: Settings, store: &[u8], z: Sizes) -> Core
+    requires { ⌜ Fit s × (SizesFor c (now store) z × (length (now store) ≡ 64)) ⌝ }
     ensures { λ r. ⌜ r ≡ Step.coreAfter c v s (read (now (store .entry))) k ⌝ }
 {
     match c {
         Change::Write(p, _) => restart(timer_of(p), heard(v, s)),
         Change::Load(gs, id) => {
             let old = s.core;
-            loaded(gs, id, k, old, store)
+            loaded(gs, id, k, old, store, z)
         }
         _ => heard(v, s),
     }
 }
 
-// The state after a service and its change, but for EMCY.
-pub fn changed(c: Change, v: Service, s: State, store: &[u8]) -> State
-    requires { ⌜ Suits c × (Fit s × (length (now store) ≡ 64)) ⌝ }
-    ensures { λ r. ⌜ r ≡ Step.changed c v s (read (now (store .entry))) ⌝ }
+// Whether it touches the parameters. The others leave them, and no load boots up.
+pub fn alters(c: Change) -> bool
+    ensures { λ r. ⌜ r ≡ altersOf c ⌝ }
 {
-    let identity = s.identity;
-    let old = s.settings;
-    let settings = settled(c, old, store);
-    let core = core_after(c, v, s, settings, store);
-    State {
-        identity,
-        settings,
-        core,
+    match c {
+        Change::Write(_, _) => true,
+        Change::TakeOut(_) => true,
+        Change::Load(_, _) => true,
+        _ => false,
     }
 }
 

@@ -1,8 +1,8 @@
--- `node::event` meets its contract: refused, a tick, or any other service. Assumes nothing.
+-- `node::event` meets its contract: refused, or by what the event asks: nothing, a tick, a change of parameters, or any other service. Assumes nothing.
 use mathlib.Core.Path.{sym, _∙_}
 use Rattle.rules.proofs.Fits.{fit}
 use Rattle.rules.proofs.Accepted.{accepted}
-use Rattle.node.proofs.Outcomes.{gives-tick, event-done, event-refused, no-tick, servable}
+use Rattle.node.proofs.Outcomes.{gives-nothing, gives-tick, gives-stayed, of-change, event-done, event-refused, no-tick, part-ok, turning, staying}
 use borrow.Author.Needs.{needs}
 use Rattle.node.proofs.event.Statement.{statement}
 use Rattle.node.proofs.event.Tie as tie
@@ -15,8 +15,7 @@ refused-requires c κs = search needs
 
 returns : tie.Need-returns
 returns c =
-    let c6 = c .before .before .before .before .before .before in
-    let a = c6 .args in
+    let a = c .before .before .before .before .before .before .args in
     rw (c .refused .ensures) (event-refused (a .event .now) (a .state) (a .out .now) (a .store .now) _ (c .before .before .refusal .ensures) (c .before .if1 .taken))
 
 service-requires : tie.Need-service-requires
@@ -25,53 +24,124 @@ service-requires c κs = search needs
 enum-told : tie.Need-enum-told
 enum-told c = search needs
 
+refused-requires-2 : tie.Need-refused-requires-2
+refused-requires-2 c κs = search needs
+
+enum-told-2 : tie.Need-enum-told-2
+enum-told-2 c = search needs
+
 tick-requires : tie.Need-tick-requires
 tick-requires c κs =
-    let c4 = c .before .before .before .before in
-    let c5 = c4 .before in
-    let c9 = c5 .before .before .before .before in
-    let a = accepted _ (c9 .args .state) _ _ (sym (c5 .refusal .ensures) ∙ c4 .if1 .left) in
-    (fit (c9 .args .state) (a .kept), a .lent .room)
+    let c5 = c .before .before .before .before .before in
+    let s = c5 .before .before .before .before .args .state in
+    let ok = accepted _ s _ _ (sym (c5 .refusal .ensures) ∙ c .before .before .before .before .if1 .left) in
+    (fit s (ok .kept), ok .lent .room)
 
-serve-requires : tie.Need-serve-requires
-serve-requires c κs =
-    let c3 = c .before .before .before in
-    let c4 = c3 .before in
-    let c5 = c4 .before in
-    let c9 = c5 .before .before .before .before in
-    let a = accepted _ (c9 .args .state) _ _ (sym (c5 .refusal .ensures) ∙ c4 .if1 .left) in
-    let v = c3 .service .result in
-    (servable _ (c9 .args .state) _ v (c3 .service .ensures) (no-tick v (c .before .before .match .keys2)) (a .kept) (a .lent .size), a .lent .room)
+answered-requires : tie.Need-answered-requires
+answered-requires c κs = search needs
+
+ask-requires : tie.Need-ask-requires
+ask-requires c κs =
+    let c4 = c .before .before .before .before in
+    let s = c4 .before .before .before .before .args .state in
+    let ok = accepted _ s _ _ (sym (c4 .refusal .ensures) ∙ c .before .before .before .if1 .left) in
+    let v = c .before .before .service .result in
+    (no-tick v (c .before .match .keys3), (part-ok _ v (c .before .before .service .ensures), (fit s (ok .kept), ok .lent .size)))
+
+alters-requires : tie.Need-alters-requires
+alters-requires c κs = search needs
+
+altered-requires : tie.Need-altered-requires
+altered-requires c κs =
+    let c6 = c .before .before .before .before .before .before in
+    let c9 = c6 .before .before .before in
+    let c11 = c9 .before .before in
+    let s = c11 .before .before .before .before .args .state in
+    let ok = accepted _ s _ _ (sym (c11 .refusal .ensures) ∙ c9 .before .if1 .left) in
+    let v = c9 .service .result in
+    let asked = c6 .ask .ensures in
+    (turning _ s _ v _ _ (c9 .service .ensures) (ok .kept) (ok .lent .size) (asked .change) (asked .sizes), (record { other = no-tick v (c6 .before .before .match .keys3); frames = asked .frames }, ok .lent .room))
 
 same-length : tie.Need-same-length
 same-length c = search needs
 
+same-length-2 : tie.Need-same-length-2
+same-length-2 c = search needs
+
 returns-2 : tie.Need-returns-2
 returns-2 c =
     let c4 = c .before .before .before .before in
-    let c6 = c4 .before .before in
-    let c7 = c6 .before in
-    let c8 = c7 .before in
-    let c12 = c8 .before .before .before .before in
-    let a = c12 .args in
-    event-done (a .event .now) (a .state) (a .out .now) (a .store .now) _ (c8 .refusal .ensures) (c7 .if1 .left)
-    (sym (c4 .enum-told .given .1) ∙ c6 .service .ensures) (gives-tick (a .state) (a .store .now) (c .before .before .tick .ensures))
+    let c11 = c4 .before .before .before .before .before .before .before in
+    let c14 = c11 .before .before .before in
+    let c16 = c14 .before .before in
+    let a = c16 .before .before .before .before .args in
+    event-done (a .event .now) (a .state) (a .out .now) (a .store .now) _ (c16 .refusal .ensures) (c14 .before .if1 .left) (c14 .service .ensures)
+    (of-change _ (a .state) (a .store .now) _ (c11 .ask .ensures .change) (c4 .altered .ensures))
 
-same-length-2 : tie.Need-same-length-2
-same-length-2 c = search needs
+keep-requires : tie.Need-keep-requires
+keep-requires c κs =
+    let c9 = c .before .before .before .before .before .before .before .before .before in
+    accepted _ (c9 .before .before .before .before .args .state) _ _ (sym (c9 .refusal .ensures) ∙ c .before .before .before .before .before .before .before .before .if1 .left) .lent .size
+
+stayed-requires : tie.Need-stayed-requires
+stayed-requires c κs =
+    let c6 = c .before .before .before .before .before .before in
+    let c8 = c6 .before .before in
+    let c11 = c8 .before .before .before in
+    let c13 = c11 .before .before in
+    let s = c13 .before .before .before .before .args .state in
+    let ok = accepted _ s _ _ (sym (c13 .refusal .ensures) ∙ c11 .before .if1 .left) in
+    let v = c11 .service .result in
+    let asked = c8 .ask .ensures in
+    let still = sym (c6 .alters .ensures) ∙ c .before .before .before .before .before .if2 .left in
+    (staying _ s _ v _ (c11 .service .ensures) (ok .kept) still (asked .change) (record { other = no-tick v (c8 .before .before .match .keys3); frames = asked .frames }), ok .lent .room)
+
+answered-requires-2 : tie.Need-answered-requires-2
+answered-requires-2 c κs = search needs
+
+returns-3 : tie.Need-returns-3
+returns-3 c =
+    let c5 = c .before .before .before .before .before in
+    let a = c5 .before .before .before .before .args in
+    let if1 = c .before .before .before .before .if1 .left in
+    let ok = accepted _ (a .state) _ _ (sym (c5 .refusal .ensures) ∙ if1) in
+    rw (c .refused2 .ensures)
+    (event-done (a .event .now) (a .state) (a .out .now) (a .store .now) _ (c5 .refusal .ensures) if1
+    (sym (c .before .enum-told .given .1) ∙ c .before .before .before .service .ensures) (gives-nothing (a .state) _ _ (ok .kept)))
 
 same-length-3 : tie.Need-same-length-3
 same-length-3 c = search needs
 
-returns-3 : tie.Need-returns-3
-returns-3 c =
-    let c4 = c .before .before .before .before in
-    let c8 = c4 .before .before .before .before in
-    let c9 = c8 .before in
-    let c10 = c9 .before in
-    let c14 = c10 .before .before .before .before in
-    let a = c14 .args in
-    event-done (a .event .now) (a .state) (a .out .now) (a .store .now) _ (c10 .refusal .ensures) (c9 .if1 .left) (c8 .service .ensures) (c4 .serve .ensures)
+returns-4 : tie.Need-returns-4
+returns-4 c =
+    let c5 = c .before .before .before .before .before in
+    let c9 = c5 .before .before .before .before in
+    let a = c9 .before .before .before .before .args in
+    rw (c .answered .ensures)
+    (event-done (a .event .now) (a .state) (a .out .now) (a .store .now) _ (c9 .refusal .ensures) (c5 .before .before .before .if1 .left)
+    (sym (c5 .enum-told2 .given .1) ∙ c5 .before .before .service .ensures) (gives-tick (a .state) _ (c .before .before .before .tick .ensures)))
+
+same-length-4 : tie.Need-same-length-4
+same-length-4 c = search needs
+
+same-length-5 : tie.Need-same-length-5
+same-length-5 c = search needs
+
+returns-5 : tie.Need-returns-5
+returns-5 c =
+    let c7 = c .before .before .before .before .before .before .before in
+    let c10 = c7 .before .before .before in
+    let c12 = c10 .before .before in
+    let c15 = c12 .before .before .before in
+    let c17 = c15 .before .before in
+    let a = c17 .before .before .before .before .args in
+    let v = c15 .service .result in
+    let asked = c12 .ask .ensures in
+    let still = sym (c10 .alters .ensures) ∙ c7 .before .before .if2 .left in
+    rw (c .answered2 .ensures)
+    (event-done (a .event .now) (a .state) (a .out .now) (a .store .now) _ (c17 .refusal .ensures) (c15 .before .if1 .left) (c15 .service .ensures)
+    (of-change v (a .state) (a .store .now) _ (asked .change)
+    (gives-stayed _ v (a .state) (a .store .now) still (no-tick v (c12 .before .before .match .keys3)) (asked .frames) (c7 .keep .ensures) (c .before .before .before .stayed .ensures))))
 
 pub event-spec : {M : Type 1} → statement M
 event-spec =
@@ -82,10 +152,22 @@ event-spec =
     returns
     service-requires
     enum-told
+    refused-requires-2
+    enum-told-2
     tick-requires
-    serve-requires
+    answered-requires
+    ask-requires
+    alters-requires
+    altered-requires
     same-length
-    returns-2
     same-length-2
+    returns-2
+    keep-requires
+    stayed-requires
+    answered-requires-2
+    returns-3
     same-length-3
-    returns-3)
+    returns-4
+    same-length-4
+    same-length-5
+    returns-5)

@@ -1,5 +1,5 @@
 -- `output::tick` meets its contract: the frames that are due, and the state in which they were. Assumes nothing.
-use mathlib.Core.Path.{refl, ap, _∙_}
+use mathlib.Core.Path.{ap, _∙_}
 use Rattle.model.specs.Time.{ticked}
 use Rattle.time.specs.Told.{dueOf}
 use borrow.Author.Needs.{needs}
@@ -32,7 +32,7 @@ returns c =
     let c4 = c .before .before .before .before in
     let c6 = c4 .before .before in
     let c7 = c6 .before in
-    record { number = refl; laid = c4 .send-due .ensures .0; state = rw (c .fired .ensures, c6 .due-of .ensures, c7 .clocked .ensures) }
+    record { laid = c4 .send-due .ensures .0; core = rw (c .fired .ensures, c6 .due-of .ensures, c7 .clocked .ensures) }
 
 pub tick-spec : {M : Type 1} → statement M
 tick-spec =

@@ -45,7 +45,7 @@ enum-known-c-2 : tie.Need-enum-known-c-2
 enum-known-c-2 c = search needs
 
 loaded-requires : tie.Need-loaded-requires
-loaded-requires c κs = search needs
+loaded-requires c κs = let c5 = c .before .before .before .before .before in (c5 .pre .1 .1, rw (c .before .before .c2 .given .1) at (c5 .pre .1 .0))
 
 heard-requires-2 : tie.Need-heard-requires-2
 heard-requires-2 c κs = search needs

@@ -1,0 +1,41 @@
+-- A service that moves neither FV nor the NMT state makes no EMCY due, and one that does has no reply. Assumes nothing.
+use mathlib.Core.Path.{_≡_, refl, sym}
+use mathlib.Core.Bool.{true, false, false≢true}
+use mathlib.Core.List.{[]}
+use Rattle.model.specs.declared.Service.{Service}
+use Rattle.model.specs.declared.Service.the-variants.{Nothing, Tick, Sample, Nmt, Sync, Remote, Sdo, Lss}
+use Rattle.model.specs.declared.Core.{Core}
+use Rattle.model.specs.declared.State.{State}
+use Rattle.model.specs.Parts.{withCore, isOperational, isPreOperational}
+use Rattle.model.specs.Time.{emcyDue, synced, remoteAnswered, answersRemote}
+use Rattle.model.specs.Sdo.{serves}
+use Rattle.model.specs.Rules.{rules}
+use Rattle.model.specs.Step.{reports, reply, heard}
+use Rattle.laws.proofs.Tests.{cond-case}
+use Rattle.laws.proofs.Count.{quiet-state}
+use Rattle.node.specs.Gives.{movesOf, keptIn}
+
+pub no-reply : (v : Service) (s : State) → movesOf v ≡ true → reply v s ≡ []
+unfolding reply
+no-reply Nothing s m = refl
+no-reply Tick s m = absurd (false≢true m)
+no-reply (Sample fv) s m = refl
+no-reply (Nmt command to) s m = refl
+no-reply Sync s m = absurd (false≢true m)
+no-reply (Remote to) s m = absurd (false≢true m)
+no-reply (Sdo to r) s m = absurd (false≢true m)
+no-reply (Lss r) s m = absurd (false≢true m)
+
+abbrev Calm : State → Core → Type 0
+Calm s c = emcyDue (withCore s c) ≡ false
+
+pub calm : (v : Service) (s : State) → movesOf v ≡ false → reports v ≡ true → rules s ≡ true → emcyDue (keptIn v s) ≡ false
+unfolding heard synced remoteAnswered emcyDue
+calm Nothing s m t r = quiet-state s r
+calm Tick s m t r = absurd (false≢true t)
+calm (Sample fv) s m t r = absurd (false≢true (sym m))
+calm (Nmt command to) s m t r = absurd (false≢true (sym m))
+calm Sync s m t r = cond-case (Calm s) (isOperational (s .core)) (λ _. quiet-state s r) (λ _. quiet-state s r)
+calm (Remote to) s m t r = cond-case (Calm s) (answersRemote to s) (λ _. quiet-state s r) (λ _. quiet-state s r)
+calm (Sdo to q) s m t r = cond-case (Calm s) (serves to s) (λ _. quiet-state s r) (λ _. quiet-state s r)
+calm (Lss q) s m t r = cond-case (Calm s) (isPreOperational (s .core)) (λ _. quiet-state s r) (λ _. quiet-state s r)

@@ -1,0 +1,36 @@
+-- `node::altered` meets its contract: what is sent, and then the store. Assumes nothing.
+use mathlib.Core.Path.{refl}
+use Rattle.node.proofs.Outcomes.{gives-served}
+use borrow.Author.Needs.{needs}
+use Rattle.node.proofs.altered.Statement.{statement}
+use Rattle.node.proofs.altered.Tie as tie
+
+turned-requires : tie.Need-turned-requires
+turned-requires c κs = search needs
+
+keep-requires : tie.Need-keep-requires
+keep-requires c κs = search needs
+
+same-length : tie.Need-same-length
+same-length c = search needs
+
+same-length-2 : tie.Need-same-length-2
+same-length-2 c = search needs
+
+returns : tie.Need-returns
+returns c =
+    let c6 = c .before .before .before .before .before .before in
+    let c11 = c6 .before .before .before .before .before in
+    let a = c11 .args in
+    let answer = c11 .pre .1 .0 in
+    gives-served (a .c) (a .v) (a .s) (a .store .now) (answer .other) (answer .frames) refl refl (c .before .before .keep .ensures) (c6 .turned .ensures)
+
+pub altered-spec : {M : Type 1} → statement M
+altered-spec =
+    tie.close
+    (tie.spec
+    turned-requires
+    keep-requires
+    same-length
+    same-length-2
+    returns)

@@ -1,0 +1,64 @@
+-- `node::turned` meets its contract: the parameters, the core, and three frames at most, each in its place. Assumes nothing.
+use mathlib.Core.Path.{refl, sym, ap, _∙_}
+use mathlib.Core.List.{_++_, append-assoc}
+use Rattle.model.specs.declared.Settings.{Settings}
+use Rattle.model.specs.Frames.{framesOf}
+use Rattle.model.specs.Store.{read}
+use Rattle.model.specs.Step as Step
+use Rattle.output.proofs.Ticks.{laid-as}
+use borrow.Author.Needs.{needs}
+use Rattle.node.proofs.turned.Statement.{statement}
+use Rattle.node.proofs.turned.Tie as tie
+
+settled-requires : tie.Need-settled-requires
+settled-requires c κs = search needs
+
+core-after-requires : tie.Need-core-after-requires
+core-after-requires c κs = search needs
+
+judge-requires : tie.Need-judge-requires
+judge-requires c κs =
+    let c6 = c .before .before .before .before .before .before in
+    let after = c6 .pre .0 .after in
+    let settled = c .before .before .settled .ensures in
+    (rw settled (after .digits), rw (c .before .core-after .ensures, settled) (after .id))
+
+booted-requires : tie.Need-booted-requires
+booted-requires c κs = search needs
+
+send-requires : tie.Need-send-requires
+send-requires c κs = search needs
+
+same-length : tie.Need-same-length
+same-length c = search needs
+
+returns : tie.Need-returns
+returns c =
+    let c6 = c .before .before .before .before .before .before in
+    let c9 = c6 .before .before .before in
+    let c14 = c9 .before .before .before .before .before in
+    let a = c14 .args in
+    let st = read (a .store .now) in
+    let settled = c9 .before .settled .ensures in
+    let core = c9 .core-after .ensures in
+    let judged =
+    c6 .before .judge .ensures (Step.changed (a .c) (a .v) (a .s) st) (ap (λ (k : Settings). k .application) (sym settled))
+    (sym (core ∙ ap (Step.coreAfter (a .c) (a .v) (a .s) st) settled)) in
+    let reply = framesOf (a .reply) in
+    let boot = framesOf (c6 .booted .result) in
+    let emcy = framesOf (c6 .before .judge .result .emcy) in
+    let order =
+    append-assoc reply boot emcy ∙ ap (λ fs. reply ++ (fs ++ emcy)) (c6 .booted .ensures) ∙ ap (λ fs. reply ++ (Step.booted (a .c) ++ fs)) (judged .emcy) in
+    record { number = refl; laid = laid-as (c .before .before .before .send .ensures) order; state = rw (judged .reported, core, settled) }
+
+pub turned-spec : {M : Type 1} → statement M
+turned-spec =
+    tie.close
+    (tie.spec
+    settled-requires
+    core-after-requires
+    judge-requires
+    booted-requires
+    send-requires
+    same-length
+    returns)
