@@ -12,6 +12,7 @@ ghost use lib.Ieee.Scale.{finite};
 ghost use mir.Syntax.{w32};
 ghost use mir.Val.{toZ, ofZ};
 ghost use Rattle.model.specs.Reading.{pvOf, integerOf, limited, judgeReal};
+ghost use Rattle.model.specs.Settings.{isInside};
 
 // ---- PV
 
@@ -149,20 +150,27 @@ fn is_finite(x: f32) -> bool
     false
 }
 
-// How a Real32 parameter stands to its range: finite, and 1,000,000 either way at most.
+// Whether a Real32 parameter is in its range: 1,000,000 either way at most. A NaN fails both tests, an infinity one.
+pub fn real_fits(x: f32) -> bool
+    ensures { λ r. ⌜ r ≡ isInside (judgeReal x) ⌝ }
+{
+    (x <= 1000000.0) & (-1000000.0 <= x)
+}
+
+// How it stands to its range. A float that is finite and not in it is past the end of its sign.
 pub fn judge_real(x: f32) -> Verdict
     ensures { λ r. ⌜ r ≡ judgeReal x ⌝ }
 {
+    if real_fits(x) {
+        return Verdict::Inside;
+    }
     if !is_finite(x) {
         return Verdict::Outside;
     }
-    if x > 1000000.0 {
+    if x > 0.0 {
         return Verdict::Above;
     }
-    if x < -1000000.0 {
-        return Verdict::Below;
-    }
-    Verdict::Inside
+    Verdict::Below
 }
 
 // ---- Integer32: two's complement both ways

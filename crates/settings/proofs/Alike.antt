@@ -1,37 +1,61 @@
--- Ranges tested one after the other, as code does it, are the ranges of a list of rows; and the bytes of a value are the same with zeros
--- after them. Assumes nothing.
-use mathlib.Core.Path.{_≡_, refl, _∙_}
-use mathlib.Core.Bool.{Bool, true, false, _&&_, and-assoc}
+-- What code does at once is what the table says row by row: the ranges of a group, the bytes of a value with zeros after them, and what a
+-- signature is of. Assumes nothing.
+use mathlib.Core.Path.{_≡_, refl}
+use mathlib.Core.Bool.{Bool, cond, _&&_, and-true, and-assoc}
 use mathlib.Core.List.{List, [], _∷_, _++_}
-use Prim.Native.Nat.{ℕ, zero, suc, _-_}
+use Prim.Native.Nat.{ℕ, zero, suc, _-_, _≤_}
+use lib.Dec.{leb, leb·zero}
 use lib.ListN.{getD, replicate}
+use borrow.Author.Tests.{le-leb}
 use Rattle.model.specs.declared.Value.{Value}
-use Rattle.model.specs.declared.Parameter.{Parameter}
+use Rattle.model.specs.declared.Verdict.the-variants.{Inside, Outside, Above, Below}
+use Rattle.model.specs.declared.Group.the-variants.{C, A}
+use Rattle.model.specs.declared.Settings.{Settings}
 use Rattle.model.specs.Bytes.{byteAt}
 use Rattle.model.specs.Values.{widthOf, kindOf, encoded}
-use Rattle.model.specs.Settings.{row, judge, isInside, inRanges}
+use Rattle.model.specs.Reading.{judgeReal}
+use Rattle.model.specs.Settings.{oddCob, evenCob, tpdoType, rows, inForce, bytesOf, judge, isInside, inRanges}
+use Rattle.model.specs.Validity.{signs, valid}
+use Rattle.reading.proofs.Ranges.{tested}
 use Rattle.settings.specs.Four.{fourBytes}
+use Rattle.settings.specs.Signed.{withC, withA}
 
 -- ---- Ranges
 
--- one parameter is in range
-abbrev inRange : (Parameter → Value) → Parameter → Bool
-inRange f p = isInside (judge (row p .range) (f p))
+-- a verdict by one test
+above : (b : Bool) → isInside (cond b Inside Above) ≡ b
+above b = tested b Above refl
 
--- a test, and then these parameters one after the other
-abbrev oneByOne : (Parameter → Value) → Bool → List Parameter → Bool
-oneByOne f b [] = b
-oneByOne f b (p ∷ ps) = oneByOne f (b && inRange f p) ps
+below : (b : Bool) → isInside (cond b Inside Below) ≡ b
+below b = tested b Below refl
 
-after : (f : Parameter → Value) (b : Bool) (ps : List Parameter) → oneByOne f b ps ≡ (b && inRanges ps f)
-unfolding inRanges
-after f true [] = refl
-after f false [] = refl
-after f b (p ∷ ps) = after f (b && inRange f p) ps ∙ and-assoc b (inRange f p) (inRanges ps f)
+outside : (b : Bool) → isInside (cond b Inside Outside) ≡ b
+outside b = tested b Outside refl
 
-pub one-by-one : (f : Parameter → Value) (p : Parameter) (ps : List Parameter) → oneByOne f (inRange f p) ps ≡ inRanges (p ∷ ps) f
-unfolding inRanges
-one-by-one f p ps = after f (inRange f p) ps
+-- C, by the rows that have a range; 1301h:2 and 1301h:3 end where their types do
+pub ranges-c : (k : Settings) → k .communication .srdo .refresh ≤ 65535 → k .communication .srdo .validation ≤ 255
+    → (leb (k .communication .srdo .direction) 1
+    && leb 1 (k .communication .srdo .refresh)
+    && leb 1 (k .communication .srdo .validation)
+    && oddCob (k .communication .srdo .first)
+    && evenCob (k .communication .srdo .second)
+    && tpdoType (k .communication .tpdo .kind))
+    ≡ inRanges (rows C) (inForce k)
+unfolding rows inRanges judge
+ranges-c k r v =
+    let s = k .communication .srdo in
+    simp (le-leb (s .refresh) 65535 r, le-leb (s .validation) 255 v, leb·zero, above, below, outside, and-true, and-assoc)
+
+-- and A
+pub ranges-a : (k : Settings)
+    → (leb (k .application .autostart) 1
+    && isInside (judgeReal (k .application .scaling .low))
+    && isInside (judgeReal (k .application .scaling .high))
+    && isInside (judgeReal (k .application .scaling .offset))
+    && leb (k .application .digits) 4)
+    ≡ inRanges (rows A) (inForce k)
+unfolding rows inRanges judge
+ranges-a k = simp (leb·zero, above, and-true, and-assoc)
 
 -- ---- Bytes
 
@@ -49,3 +73,15 @@ zeros-after (x ∷ l) n (suc i) = zeros-after l n i
 pub four-bytes : (v : Value) (i : ℕ) → byteAt i (fourBytes v) ≡ byteAt i (encoded v)
 unfolding fourBytes
 four-bytes v i = zeros-after (encoded v) (4 - widthOf (kindOf v)) i
+
+-- ---- Signatures
+
+-- what is signed is as valid as the settings that it is of
+pub valid-c : (k : Settings) → valid C (inForce (withC (k .communication .srdo) (k .communication .signature))) ≡ valid C (inForce k)
+unfolding valid signs bytesOf
+valid-c k = refl
+
+pub valid-a : (k : Settings)
+    → valid A (inForce (withA (k .application .scaling) (k .application .digits) (k .application .signature))) ≡ valid A (inForce k)
+unfolding valid signs bytesOf
+valid-a k = refl

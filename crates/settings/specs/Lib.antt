@@ -1,2 +1,3 @@
 pub mod Four
 pub mod Put
+pub mod Signed

@@ -90,6 +90,27 @@ fn judge_member(member: bool) -> Verdict
     }
 }
 
+// Whether a number is a COB-ID that 1301h:5 may have.
+pub fn is_first_cob(n: u32) -> bool
+    ensures { λ r. ⌜ r ≡ Table.oddCob n ⌝ }
+{
+    (0x101 <= n) & (n <= 0x17f) & (n % 2 == 1)
+}
+
+// Whether it is one that 1301h:6 may have.
+pub fn is_second_cob(n: u32) -> bool
+    ensures { λ r. ⌜ r ≡ Table.evenCob n ⌝ }
+{
+    (0x102 <= n) & (n <= 0x180) & (n % 2 == 0)
+}
+
+// Whether it is a transmission type.
+pub fn is_type(n: u32) -> bool
+    ensures { λ r. ⌜ r ≡ Table.tpdoType n ⌝ }
+{
+    (n <= 240) | ((252 <= n) & (n <= 255))
+}
+
 // How a value stands to the range of a parameter.
 pub fn judge(p: Parameter, v: Value) -> Verdict
     ensures { λ r. ⌜ r ≡ Table.judge (Table.row p .range) v ⌝ }
@@ -99,9 +120,9 @@ pub fn judge(p: Parameter, v: Value) -> Verdict
         Parameter::P1301s1 | Parameter::P2330 => judge_between(0, 1, v),
         Parameter::P1301s2 => judge_between(1, 65535, v),
         Parameter::P1301s3 => judge_between(1, 255, v),
-        Parameter::P1301s5 => judge_member((0x101 <= n) & (n <= 0x17f) & (n % 2 == 1)),
-        Parameter::P1301s6 => judge_member((0x102 <= n) & (n <= 0x180) & (n % 2 == 0)),
-        Parameter::P1800s2 => judge_member((n <= 240) | ((252 <= n) & (n <= 255))),
+        Parameter::P1301s5 => judge_member(is_first_cob(n)),
+        Parameter::P1301s6 => judge_member(is_second_cob(n)),
+        Parameter::P1800s2 => judge_member(is_type(n)),
         Parameter::P6121 | Parameter::P6123 | Parameter::P6124 => judge_real(float_of(v)),
         Parameter::P6132 => judge_between(0, 4, v),
         _ => Verdict::Inside,

@@ -1,83 +1,62 @@
 // The ranges, the signatures and the validity bytes of the two groups. Any float may be a NaN or an infinity.
-use super::table::judge;
-use super::table::value_of;
+use super::table::is_first_cob;
+use super::table::is_second_cob;
+use super::table::is_type;
 use super::values::word;
-use model::Parameter;
+use model::Scaling;
 use model::Settings;
-use model::Verdict;
+use model::SrdoSettings;
 use reading::bits_of;
+use reading::real_fits;
 use wire::crc::crc;
 ghost use mathlib.Core.Path.{_≡_};
-ghost use mathlib.Core.List.{_++_};
 ghost use Rattle.model.specs.declared.Group.the-variants as G;
 ghost use Rattle.model.specs.Settings as Table;
 ghost use Rattle.model.specs.Validity as Validity;
-ghost use Rattle.model.specs.Signature.{crcOf};
+ghost use Rattle.settings.specs.Signed.{withC, withA};
 
 // ---- Ranges
 
-// Whether a verdict is that a value is in its range.
-pub fn is_inside(verdict: Verdict) -> bool
-    ensures { λ r. ⌜ r ≡ Table.isInside verdict ⌝ }
-{
-    match verdict {
-        Verdict::Inside => true,
-        Verdict::Outside => false,
-        Verdict::Above => false,
-        Verdict::Below => false,
-    }
-}
-
-// Whether the value of a parameter in force is in its range.
-fn fits(k: Settings, p: Parameter) -> bool
-    ensures { λ r. ⌜ r ≡ Table.isInside (Table.judge (Table.row p .range) (Table.inForce k p)) ⌝ }
-{
-    is_inside(judge(p, value_of(k, p)))
-}
-
-// Whether every parameter of group C is in range.
+// Whether every parameter of group C is in range. It is asked at every event, so the fields are compared as they stand, with no value made of
+// them, and only those that have a range: 1017h, 1800h:5, 13FEh and 13FFh:1 may be anything.
 pub fn ranges_c(k: Settings) -> bool
     ensures { λ r. ⌜ r ≡ Table.inRanges (Table.rows G.C) (Table.inForce k) ⌝ }
 {
-    fits(k, Parameter::P1017)
-        & fits(k, Parameter::P1301s1)
-        & fits(k, Parameter::P1301s2)
-        & fits(k, Parameter::P1301s3)
-        & fits(k, Parameter::P1301s5)
-        & fits(k, Parameter::P1301s6)
-        & fits(k, Parameter::P1800s2)
-        & fits(k, Parameter::P1800s5)
-        & fits(k, Parameter::P13FE)
-        & fits(k, Parameter::P13FF)
+    (k.communication.srdo.direction <= 1)
+        & (1 <= k.communication.srdo.refresh)
+        & (1 <= k.communication.srdo.validation)
+        & is_first_cob(k.communication.srdo.first)
+        & is_second_cob(k.communication.srdo.second)
+        & is_type(k.communication.tpdo.kind as u32)
 }
 
-// Whether every parameter of group A is in range.
+// The same of group A: 51FEh and 51FFh:1 may be anything.
 pub fn ranges_a(k: Settings) -> bool
     ensures { λ r. ⌜ r ≡ Table.inRanges (Table.rows G.A) (Table.inForce k) ⌝ }
 {
-    fits(k, Parameter::P2330)
-        & fits(k, Parameter::P6121)
-        & fits(k, Parameter::P6123)
-        & fits(k, Parameter::P6124)
-        & fits(k, Parameter::P6132)
-        & fits(k, Parameter::P51FE)
-        & fits(k, Parameter::P51FF)
+    (k.application.autostart <= 1)
+        & real_fits(k.application.scaling.low)
+        & real_fits(k.application.scaling.high)
+        & real_fits(k.application.scaling.offset)
+        & (k.application.digits <= 4)
 }
 
 // ---- Signatures
 
-// The CRC of what 13FFh:1 signs: 1301h:1, 2, 3, 5, 6, then the number of mappings, and each of 1381h behind its sub.
-fn crc_c(k: Settings) -> u16
-    ensures { λ r. ⌜ r ≡ crcOf (Table.bytesOf (Validity.covered G.C) (Table.inForce k) ++ Validity.mappings G.C) ⌝ }
+// Whether 13FEh may be A5h: 13FFh:1 is the CRC of 1301h:1, 2, 3, 5, 6, then the number of mappings, and each of 1381h behind its sub;
+// and the second COB-ID follows the first. That sum is wide: a COB-ID may be any 32 bits.
+// It takes what is signed and no more: all the settings, by value, would be laid out on the stack anew at each call.
+fn signed_c(srdo: SrdoSettings, signature: u16) -> bool
+    ensures { λ r. ⌜ r ≡ Validity.valid G.C (Table.inForce (withC srdo signature)) ⌝ }
 {
-    let refresh = k.communication.srdo.refresh;
-    let first = word(k.communication.srdo.first);
-    let second = word(k.communication.srdo.second);
+    let refresh = srdo.refresh;
+    let first = word(srdo.first);
+    let second = word(srdo.second);
     let bytes = [
-        k.communication.srdo.direction,
+        srdo.direction,
         (refresh % 256) as u8,
         (refresh / 256) as u8,
-        k.communication.srdo.validation,
+        srdo.validation,
         first[0],
         first[1],
         first[2],
@@ -98,16 +77,16 @@ fn crc_c(k: Settings) -> u16
         0x30,
         0x50,
     ];
-    crc(&bytes)
+    (signature == crc(&bytes)) & (srdo.second as u64 == srdo.first as u64 + 1)
 }
 
-// The CRC of what 51FFh:1 signs: 6121h, 6123h, 6124h, 6132h.
-fn crc_a(k: Settings) -> u16
-    ensures { λ r. ⌜ r ≡ crcOf (Table.bytesOf (Validity.covered G.A) (Table.inForce k) ++ Validity.mappings G.A) ⌝ }
+// Whether 51FEh may be A5h: 51FFh:1 is the CRC of 6121h, 6123h, 6124h, 6132h. It takes no more than these either.
+fn signed_a(scaling: Scaling, digits: u8, signature: u16) -> bool
+    ensures { λ r. ⌜ r ≡ Validity.valid G.A (Table.inForce (withA scaling digits signature)) ⌝ }
 {
-    let low = word(bits_of(k.application.scaling.low));
-    let high = word(bits_of(k.application.scaling.high));
-    let offset = word(bits_of(k.application.scaling.offset));
+    let low = word(bits_of(scaling.low));
+    let high = word(bits_of(scaling.high));
+    let offset = word(bits_of(scaling.offset));
     let bytes = [
         low[0],
         low[1],
@@ -121,29 +100,27 @@ fn crc_a(k: Settings) -> u16
         offset[1],
         offset[2],
         offset[3],
-        k.application.digits,
+        digits,
     ];
-    crc(&bytes)
+    signature == crc(&bytes)
 }
 
 // ---- The validity bytes
 
-// Whether 13FEh may be A5h: the signature is right, and the second COB-ID follows the first. The sum is wide: a COB-ID may be any 32 bits.
+// Whether 13FEh may be A5h.
 pub fn valid_c(k: Settings) -> bool
     ensures { λ r. ⌜ r ≡ Validity.valid G.C (Table.inForce k) ⌝ }
 {
-    let first = k.communication.srdo.first as u64;
-    let second = k.communication.srdo.second as u64;
-    let signature = k.communication.signature;
-    (signature == crc_c(k)) & (second == first + 1)
+    let srdo = k.communication.srdo;
+    signed_c(srdo, k.communication.signature)
 }
 
-// Whether 51FEh may be A5h: the signature is right.
+// Whether 51FEh may be A5h.
 pub fn valid_a(k: Settings) -> bool
     ensures { λ r. ⌜ r ≡ Validity.valid G.A (Table.inForce k) ⌝ }
 {
-    let signature = k.application.signature;
-    signature == crc_a(k)
+    let scaling = k.application.scaling;
+    signed_a(scaling, k.application.digits, k.application.signature)
 }
 
 // Whether 13FEh is A5h.
@@ -160,12 +137,13 @@ pub fn marked_a(k: Settings) -> bool
     k.application.valid == 0xa5
 }
 
-// Whether 13FEh is A5h only if valid. The signature is computed only where it is asked for.
+// Whether 13FEh is A5h only if valid. The signature is computed only where it is asked for, and not by `valid_c`, which would take all the settings.
 pub fn honest_c(k: Settings) -> bool
     ensures { λ r. ⌜ r ≡ Validity.honest G.C (Table.inForce k) ⌝ }
 {
     if marked_c(k) {
-        return valid_c(k);
+        let srdo = k.communication.srdo;
+        return signed_c(srdo, k.communication.signature);
     }
     true
 }
@@ -175,7 +153,8 @@ pub fn honest_a(k: Settings) -> bool
     ensures { λ r. ⌜ r ≡ Validity.honest G.A (Table.inForce k) ⌝ }
 {
     if marked_a(k) {
-        return valid_a(k);
+        let scaling = k.application.scaling;
+        return signed_a(scaling, k.application.digits, k.application.signature);
     }
     true
 }

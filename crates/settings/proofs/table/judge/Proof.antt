@@ -28,17 +28,26 @@ judge-between-requires-3 c κs = search needs
 enum-told-3 : tie.Need-enum-told-3
 enum-told-3 c = search needs
 
+is-first-cob-requires : tie.Need-is-first-cob-requires
+is-first-cob-requires c κs = search needs
+
 judge-member-requires : tie.Need-judge-member-requires
 judge-member-requires c κs = search needs
 
 enum-told-4 : tie.Need-enum-told-4
 enum-told-4 c = search needs
 
+is-second-cob-requires : tie.Need-is-second-cob-requires
+is-second-cob-requires c κs = search needs
+
 judge-member-requires-2 : tie.Need-judge-member-requires-2
 judge-member-requires-2 c κs = search needs
 
 enum-told-5 : tie.Need-enum-told-5
 enum-told-5 c = search needs
+
+is-type-requires : tie.Need-is-type-requires
+is-type-requires c κs = search needs
 
 judge-member-requires-3 : tie.Need-judge-member-requires-3
 judge-member-requires-3 c κs = search needs
@@ -69,15 +78,15 @@ returns-3 c = rw (c .judge-between3 .ensures, c .before .enum-told2 .given .1)
 
 returns-4 : tie.Need-returns-4
 unfolding judge
-returns-4 c = rw (c .judge-member .ensures, c .before .before .before .number-of .ensures, c .before .enum-told3 .given .1)
+returns-4 c = rw (c .judge-member .ensures, c .before .is-first-cob .ensures, c .before .before .before .before .number-of .ensures, c .before .before .enum-told3 .given .1)
 
 returns-5 : tie.Need-returns-5
 unfolding judge
-returns-5 c = rw (c .judge-member2 .ensures, c .before .before .before .number-of .ensures, c .before .enum-told4 .given .1)
+returns-5 c = rw (c .judge-member2 .ensures, c .before .is-second-cob .ensures, c .before .before .before .before .number-of .ensures, c .before .before .enum-told4 .given .1)
 
 returns-6 : tie.Need-returns-6
 unfolding judge
-returns-6 c = rw (c .judge-member3 .ensures, c .before .before .before .number-of .ensures, c .before .enum-told5 .given .1)
+returns-6 c = rw (c .judge-member3 .ensures, c .before .is-type .ensures, c .before .before .before .before .number-of .ensures, c .before .before .enum-told5 .given .1)
 
 returns-7 : tie.Need-returns-7
 unfolding judge
@@ -105,10 +114,13 @@ judge-spec =
     enum-told-2
     judge-between-requires-3
     enum-told-3
+    is-first-cob-requires
     judge-member-requires
     enum-told-4
+    is-second-cob-requires
     judge-member-requires-2
     enum-told-5
+    is-type-requires
     judge-member-requires-3
     float-of-requires
     judge-real-requires

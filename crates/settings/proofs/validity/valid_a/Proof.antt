@@ -1,15 +1,15 @@
--- `settings::validity::valid_a` meets its contract: from what `crc_a` ensures. Assumes nothing.
+-- `settings::validity::valid_a` meets its contract: from what `signed_a` ensures. Assumes nothing.
 use borrow.Author.Needs.{needs}
-use Rattle.model.specs.Validity.{signs, valid}
+use mathlib.Core.Path.{_∙_}
+use Rattle.settings.proofs.Alike.{valid-a}
 use Rattle.settings.proofs.validity.valid_a.Statement.{statement}
 use Rattle.settings.proofs.validity.valid_a.Tie as tie
 
-crc-a-requires : tie.Need-crc-a-requires
-crc-a-requires c κs = search needs
+signed-a-requires : tie.Need-signed-a-requires
+signed-a-requires c κs = search needs
 
 returns : tie.Need-returns
-unfolding signs valid
-returns c = rw (c .crc-a .ensures)
+returns c = c .signed-a .ensures ∙ valid-a (c .before .before .args .k)
 
 pub valid-a-spec : {M : Type 1} → statement M
-valid-a-spec = tie.close (tie.spec crc-a-requires returns)
+valid-a-spec = tie.close (tie.spec signed-a-requires returns)
