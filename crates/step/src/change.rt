@@ -1,12 +1,10 @@
 // The state and the store after a change. Nothing else touches the saved parameters or the store.
 use super::ask::silent;
-use super::heard::heard;
 use image::Sizes;
 use model::Change;
 use model::Core;
 use model::Groups;
 use model::Reply;
-use model::Service;
 use model::Settings;
 use model::State;
 use nmt::boot_up;
@@ -21,12 +19,13 @@ use time::restarts::restart;
 use time::restarts::timer_of;
 ghost use mathlib.Core.Path.{_≡_};
 ghost use lib.ListN.{length};
+ghost use Rattle.model.specs.declared.Service.{Service};
+ghost use Rattle.model.specs.declared.State.{State};
 ghost use Rattle.model.specs.Frames.{framesOf};
 ghost use Rattle.model.specs.Store.{read};
 ghost use Rattle.model.specs.Changes.{applied, stored};
 ghost use Rattle.model.specs.Nmt as Nmt;
 ghost use Rattle.model.specs.Step as Step;
-ghost use Rattle.rules.specs.Fit.{Fit};
 ghost use Rattle.store.specs.Saved.{Kept};
 ghost use Rattle.step.specs.Asked.{Suits, SizesFor, altersOf};
 
@@ -52,18 +51,16 @@ fn loaded(gs: Groups, id: u8, k: Settings, c: Core, store: &[u8], z: Sizes) -> C
     reset(gs, id, saved.bit, k, c)
 }
 
-// The rest of the state after a service and its change, with the parameters k after that: a written period or type restarts its timer.
-pub fn core_after(c: Change, v: Service, s: State, k: Settings, store: &[u8], z: Sizes) -> Core
-    requires { ⌜ Fit s × (SizesFor c (now store) z × (length (now store) ≡ 64)) ⌝ }
-    ensures { λ r. ⌜ r ≡ Step.coreAfter c v s (read (now (store .entry))) k ⌝ }
+// The rest of the state after a service and its change: h is what the service alone leaves of it, `old` what it was before, k the parameters
+// after the change. A written period or type restarts its timer.
+pub fn core_after(c: Change, h: Core, old: Core, k: Settings, store: &[u8], z: Sizes) -> Core
+    requires { ⌜ SizesFor c (now store) z × (length (now store) ≡ 64) ⌝ }
+    ensures { λ r. ⌜ ((v : Service) (s : State) → h ≡ Step.heard v s → old ≡ s .core → r ≡ Step.coreAfter c v s (read (now (store .entry))) k) ⌝ }
 {
     match c {
-        Change::Write(p, _) => restart(timer_of(p), heard(v, s)),
-        Change::Load(gs, id) => {
-            let old = s.core;
-            loaded(gs, id, k, old, store, z)
-        }
-        _ => heard(v, s),
+        Change::Write(p, _) => restart(timer_of(p), h),
+        Change::Load(gs, id) => loaded(gs, id, k, old, store, z),
+        _ => h,
     }
 }
 

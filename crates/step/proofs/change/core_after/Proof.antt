@@ -1,5 +1,5 @@
 -- `change::core_after` meets its contract: a write and a load, each by its function, and the others. Assumes nothing.
-use mathlib.Core.Path.{_≡_, refl}
+use mathlib.Core.Path.{_≡_, refl, _∙_}
 use mathlib.Core.List.{List, [], _∷_}
 use Prim.Native.Nat.{ℕ}
 use types.Run.{OneOf, miss}
@@ -35,9 +35,6 @@ enum-known-c c = search needs
 timer-of-requires : tie.Need-timer-of-requires
 timer-of-requires c κs = search needs
 
-heard-requires : tie.Need-heard-requires
-heard-requires c κs = search needs
-
 restart-requires : tie.Need-restart-requires
 restart-requires c κs = search needs
 
@@ -45,23 +42,18 @@ enum-known-c-2 : tie.Need-enum-known-c-2
 enum-known-c-2 c = search needs
 
 loaded-requires : tie.Need-loaded-requires
-loaded-requires c κs = let c5 = c .before .before .before .before .before in (c5 .pre .1 .1, rw (c .before .before .c2 .given .1) at (c5 .pre .1 .0))
-
-heard-requires-2 : tie.Need-heard-requires-2
-heard-requires-2 c κs = search needs
+loaded-requires c κs = let c4 = c .before .before .before .before in (c4 .pre .1, rw (c .before .c2 .given .1) at (c4 .pre .0))
 
 returns : tie.Need-returns
 unfolding Step.coreAfter
-returns c = rw (c .restart .ensures, c .before .heard .ensures, c .before .before .timer-of .ensures, c .before .before .before .before .c .given .1)
+returns c = λ v s h e. rw (c .restart .ensures, c .before .timer-of .ensures, c .before .before .before .c .given .1, h)
 
 returns-2 : tie.Need-returns-2
 unfolding Step.coreAfter
-returns-2 c = rw (c .loaded .ensures, c .before .before .before .c2 .given .1)
+returns-2 c = λ v s h e. rw (c .loaded .ensures, c .before .before .c2 .given .1, e)
 
 returns-3 : tie.Need-returns-3
-returns-3 c =
-    let c3 = c .before .before .before in
-    rw (c .heard2 .ensures) (others (c3 .args .c) (c3 .args .v) (c3 .args .s) _ (c3 .args .k) (c .before .match .keys3))
+returns-3 c = λ v s h e. h ∙ others (c .before .before .args .c) v s _ (c .before .before .args .k) (c .match .keys3)
 
 pub core-after-spec : {M : Type 1} → statement M
 core-after-spec =
@@ -69,11 +61,9 @@ core-after-spec =
     (tie.spec
     enum-known-c
     timer-of-requires
-    heard-requires
     restart-requires
     enum-known-c-2
     loaded-requires
-    heard-requires-2
     returns
     returns-2
     returns-3)
