@@ -62,9 +62,11 @@ fn rule_marks(s: State) -> bool
 fn rule_start(s: State) -> bool
     ensures { λ r. ⌜ r ≡ Rules.ruleStart s ⌝ }
 {
+    if s.core.nmt != 5 {
+        return true;
+    }
     let k = s.settings;
-    let obeyed = start_obeyed(k);
-    (s.core.nmt != 5) | obeyed
+    start_obeyed(k)
 }
 
 // The reported flag tells whether the reading is capped, unless Stopped: no EMCY is due.
@@ -99,22 +101,29 @@ fn rule_sync(s: State) -> bool
 fn rule_upload(s: State) -> bool
     ensures { λ r. ⌜ r ≡ Rules.ruleUpload s ⌝ }
 {
+    if !s.core.upload.busy {
+        return true;
+    }
     let at = s.core.upload.at;
     let toggle = s.core.upload.toggle;
-    !s.core.upload.busy
-        | (((at == 0) & (toggle == 0))
-            | (((at == 7) & (toggle == 1)) | ((at == 14) & (toggle == 0))))
+    ((at == 0) & (toggle == 0)) | (((at == 7) & (toggle == 1)) | ((at == 14) & (toggle == 0)))
 }
 
-// All of them. The ranges come before the reading, which is defined for digits in range alone.
+// All of them, the cheap ones first and the two signatures last: nothing is kept over the CRCs.
+// The ranges come before the reading, which is defined for digits in range alone.
 pub fn rules(s: State) -> bool
     ensures { λ r. ⌜ r ≡ Rules.rules s ⌝ }
 {
     if !(rule_ids(s) & (rule_bits(s) & (rule_nmt(s) & rule_ranges(s)))) {
         return false;
     }
+    if !(rule_start(s) & (rule_lss(s) & (rule_sync(s) & rule_upload(s)))) {
+        return false;
+    }
+    if !rule_reported(s) {
+        return false;
+    }
     rule_marks(s)
-        & (rule_start(s) & (rule_reported(s) & (rule_lss(s) & (rule_sync(s) & rule_upload(s)))))
 }
 
 // ---- The refusals

@@ -1,7 +1,5 @@
 // The upload of the name, `CRADLE-PRESSURE`, in three segments of seven bytes.
 use super::reply::aborted;
-use model::Entry;
-use model::Found;
 use model::Frame;
 use model::State;
 use model::Upload;
@@ -9,6 +7,7 @@ ghost use mathlib.Core.Path.{_≡_};
 ghost use mathlib.Core.Bool.{true};
 ghost use mathlib.Core.List.{_∷_};
 ghost use Prim.Native.Nat.{_≤_};
+ghost use Rattle.model.specs.Dictionary as Table;
 ghost use Rattle.model.specs.Parts.{idOf, noUpload};
 ghost use Rattle.model.specs.Rules.{ruleUpload};
 ghost use Rattle.model.specs.Sdo as Sdo;
@@ -35,21 +34,18 @@ pub fn no_upload() -> Upload
     }
 }
 
-// A read of the name opens an upload.
-pub fn opened(found: Found) -> Upload
-    ensures { λ r. ⌜ r ≡ Sdo.opened found ⌝ }
+// A read of the name opens an upload. The name stands at 1008h:0 and nowhere else, so the dictionary is not searched for it.
+pub fn opened(index: u16, sub: u8) -> Upload
+    ensures { λ r. ⌜ r ≡ Sdo.opened (Table.find index sub) ⌝ }
 {
-    match found {
-        Found::At(e) => match e {
-            Entry::Name => Upload {
-                busy: true,
-                at: 0,
-                toggle: 0,
-            },
-            _ => no_upload(),
-        },
-        _ => no_upload(),
+    if (index == NAME_INDEX) & (sub == 0) {
+        return Upload {
+            busy: true,
+            at: 0,
+            toggle: 0,
+        };
     }
+    no_upload()
 }
 
 // The upload after its segment: the last closes it.

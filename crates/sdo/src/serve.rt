@@ -42,7 +42,7 @@ pub fn upload_after(request: SdoRequest, s: State) -> Upload
     let none = no_upload();
     match request {
         SdoRequest::Download { .. } => none,
-        SdoRequest::Upload { index, sub } => opened(find(index, sub)),
+        SdoRequest::Upload { index, sub } => opened(index, sub),
         SdoRequest::UploadSegment { toggle } => {
             if sends_segment(toggle, u) {
                 return segment_sent(u);

@@ -60,12 +60,22 @@ module _ (image : List ℕ) (s : Sizes) (k : Kept image s) where
   set-or-kept setN setC setA n c a x y z e f g = rw (e, f, g, n-part, c-part, a-part)
 
 -- the two tests of an image, on the sizes that its trailer tells, are the definition's
-pub tests : (image : List ℕ) (s : Sizes) (own fine : Bool) → s ≡ sizesIn image
-    → own ≡ sameBytes image (build (part 0 (s .n) image) (part (s .n) (s .c) image) (part (s .n + s .c) (s .a) image))
-    → fine ≡ (okN (part 0 (s .n) image) && (ok C (part (s .n) (s .c) image) && ok A (part (s .n + s .c) (s .a) image)))
-    → own && fine ≡ isGood image
-unfolding isGood nIn cIn aIn
-tests image s own fine e h j = rw (h, j, e)
+module _ (image : List ℕ) (s : Sizes) (own : Bool) (e : s ≡ sizesIn image)
+    (h : own ≡ sameBytes image (build (part 0 (s .n) image) (part (s .n) (s .c) image) (part (s .n + s .c) (s .a) image)))
+  where
+    tests : (fine : Bool) → fine ≡ (okN (part 0 (s .n) image) && (ok C (part (s .n) (s .c) image) && ok A (part (s .n + s .c) (s .a) image)))
+        → isGood image ≡ own && fine
+    unfolding isGood nIn cIn aIn
+    tests fine j = rw (h, j, e)
+
+    -- where the first fails the image is not good, and where it holds the second decides
+    pub not-own : own ≡ false → isGood image ≡ false
+    not-own o = rw o at (tests _ refl)
+
+    pub by-records : (fine : Bool) → own ≡ true
+        → fine ≡ (okN (part 0 (s .n) image) && (ok C (part (s .n) (s .c) image) && ok A (part (s .n + s .c) (s .a) image)))
+        → isGood image ≡ fine
+    by-records fine o j = rw o at (tests fine j)
 
 -- so what is saved is of those sizes, or nothing
 pub kept : (image : List ℕ) (s : Sizes) → Sized image s → isGood image ≡ true → Kept image s

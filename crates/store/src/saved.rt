@@ -27,7 +27,7 @@ fn accepted(image: &[u8], n: usize, c: usize, a: usize) -> bool
 }
 
 // The sizes of the records that are saved, none where the store is not good. They stand in the order N, C, A from byte 0 on.
-// A matching CRC alone says nothing: 64 zero bytes have one.
+// A matching CRC alone says nothing: 64 zero bytes have one. The bytes are asked first: most bad stores are turned away by them.
 pub fn saved_sizes(store: &[u8]) -> Sizes
     requires { ⌜ length (now store) ≡ 64 ⌝ }
     ensures { λ r. ⌜ Kept (now (store .entry)) r ⌝ }
@@ -36,10 +36,10 @@ pub fn saved_sizes(store: &[u8]) -> Sizes
     let n = s.n;
     let c = s.c;
     let a = s.a;
-    let own = is_own(store, n, c, a);
-    let fine = accepted(store, n, c, a);
-    if own & fine {
-        return s;
+    if is_own(store, n, c, a) {
+        if accepted(store, n, c, a) {
+            return s;
+        }
     }
     Sizes { n: 0, c: 0, a: 0 }
 }

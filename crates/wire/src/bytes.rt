@@ -26,16 +26,19 @@ pub fn byte(s: &[u8], at: usize) -> u8
     if at < s.len() { s[at] } else { 0 }
 }
 
-// The number of two bytes.
+// The number of two bytes. Where both are there, one test of the length serves both, and the compiler makes one load of them.
 pub fn get16(s: &[u8], at: usize) -> u16
     requires { ⌜ at ≤ 65535 ⌝ }
     ensures { λ r. ⌜ r ≡ numberAt at 2 (now (s .entry)) ⌝ }
 {
     let a1 = at + 1;
+    if a1 < s.len() {
+        return wide16(s[at]) + wide16(s[a1]) * 256;
+    }
     wide16(byte(s, at)) + wide16(byte(s, a1)) * 256
 }
 
-// The number of four bytes.
+// The number of four bytes. Where all are there, one test of the length serves all, and the compiler makes one load of them.
 pub fn get32(s: &[u8], at: usize) -> u32
     requires { ⌜ at ≤ 65535 ⌝ }
     ensures { λ r. ⌜ r ≡ numberAt at 4 (now (s .entry)) ⌝ }
@@ -43,6 +46,12 @@ pub fn get32(s: &[u8], at: usize) -> u32
     let a1 = at + 1;
     let a2 = a1 + 1;
     let a3 = a2 + 1;
+    if a3 < s.len() {
+        return wide32(s[at])
+            + wide32(s[a1]) * 256
+            + wide32(s[a2]) * 65536
+            + wide32(s[a3]) * 16777216;
+    }
     wide32(byte(s, at))
         + wide32(byte(s, a1)) * 256
         + wide32(byte(s, a2)) * 65536

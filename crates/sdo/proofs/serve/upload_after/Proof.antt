@@ -15,9 +15,6 @@ enum-told c = search needs
 enum-known-request : tie.Need-enum-known-request
 enum-known-request c = search needs
 
-find-requires : tie.Need-find-requires
-find-requires c κs = search needs
-
 opened-requires : tie.Need-opened-requires
 opened-requires c κs = search needs
 
@@ -51,7 +48,7 @@ returns-2 c = rw (c .enum-told .given .1) (c .before .before .no-upload .ensures
 
 returns-3 : tie.Need-returns-3
 unfolding Sdo.uploadAfter
-returns-3 c = rw (c .opened .ensures, c .before .find .ensures, c .before .before .before .request .given .1)
+returns-3 c = rw (c .opened .ensures, c .before .before .request .given .1)
 
 returns-4 : tie.Need-returns-4
 unfolding Sdo.uploadAfter
@@ -76,7 +73,6 @@ upload-after-spec =
     no-upload-requires
     enum-told
     enum-known-request
-    find-requires
     opened-requires
     enum-known-request-2
     sends-segment-requires

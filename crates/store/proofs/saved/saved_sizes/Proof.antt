@@ -1,7 +1,7 @@
--- `saved::saved_sizes` meets its contract: its two tests together are the definition's. Assumes nothing.
+-- `saved::saved_sizes` meets its contract: its two tests together are the definition's, and the first that fails decides. Assumes nothing.
 use denote.Ref.{now}
-use mathlib.Core.Path.{sym, _∙_}
-use Rattle.store.proofs.Parts.{tests, kept, nothing-kept}
+use mathlib.Core.Path.{_∙_}
+use Rattle.store.proofs.Parts.{not-own, by-records, kept, nothing-kept}
 use borrow.Author.Needs.{needs}
 use Rattle.store.proofs.saved.saved_sizes.Statement.{statement}
 use Rattle.store.proofs.saved.saved_sizes.Tie as tie
@@ -16,17 +16,28 @@ accepted-requires : tie.Need-accepted-requires
 accepted-requires c κs = search needs
 
 returns : tie.Need-returns
-returns c = let z = c .before .before .before .sizes-in in
-    let image = now (c .before .before .before .before .before .args .store) in
+returns c = let fine = c .before in
+    let own = fine .before in
+    let z = own .before .before .sizes-in in
+    let image = now (own .before .before .before .before .args .store) in
     kept image _ (z .ensures)
-    (sym (tests image (z .result) _ _ (z .ensures .told) (c .before .before .is-own .ensures) (c .before .accepted .ensures)) ∙ c .if1 .taken)
+    (by-records image (z .result) _ (z .ensures .told) (own .before .is-own .ensures) _ (own .if1 .taken) (fine .accepted .ensures) ∙ c .if2 .taken)
 
 returns-2 : tie.Need-returns-2
-returns-2 c = let z = c .before .before .before .sizes-in in
-    let image = now (c .before .before .before .before .before .args .store) in
+returns-2 c = let fine = c .before in
+    let own = fine .before in
+    let z = own .before .before .sizes-in in
+    let image = now (own .before .before .before .before .args .store) in
     nothing-kept image
-    (sym (tests image (z .result) _ _ (z .ensures .told) (c .before .before .is-own .ensures) (c .before .accepted .ensures)) ∙ c .if1 .left)
+    (by-records image (z .result) _ (z .ensures .told) (own .before .is-own .ensures) _ (own .if1 .taken) (fine .accepted .ensures) ∙ c .if2 .left)
+
+returns-3 : tie.Need-returns-3
+returns-3 c = let z = c .before .before .sizes-in in
+    let image = now (c .before .before .before .before .args .store) in
+    nothing-kept image
+    (not-own image (z .result) _ (z .ensures .told) (c .before .is-own .ensures) (c .if1 .left))
 
 pub saved-sizes-spec : {M : Type 1} → statement M
 saved-sizes-spec =
-    tie.close (tie.spec sizes-in-requires is-own-requires accepted-requires returns returns-2)
+    tie.close
+    (tie.spec sizes-in-requires is-own-requires accepted-requires returns returns-2 returns-3)
