@@ -17,6 +17,7 @@ use Rattle.model.specs.declared.Groups.the-variants.{Both}
 use Rattle.model.specs.declared.Frame.{Frame}
 use Rattle.model.specs.declared.Reply.{Reply}
 use Rattle.model.specs.declared.Identity.{Identity}
+use Rattle.model.specs.declared.Core.{Core}
 use Rattle.model.specs.declared.State.{State}
 use Rattle.model.specs.declared.Answer.{Answer}
 use Rattle.model.specs.Store.{read, addressFrom}
@@ -188,21 +189,22 @@ pub part-ok : (e : List ℕ) (v : Service) → v ≡ service e → partIn v ≤ 
 part-ok e v k = rw k (asked-part e)
 
 -- what the parts may count on
-pub turning : (e : List ℕ) (s : State) (st : List ℕ) (v : Service) (c : Change) (z : Sizes) → v ≡ service e → rules s ≡ true → length st ≡ 64
-    → c ≡ changeOf v s (read st) → SizesFor c st z → Turning c z v s st
-turning e s st v c z h r size k told =
+pub turning : (e : List ℕ) (s : State) (st : List ℕ) (v : Service) (c : Change) (z : Sizes) {h : Core} → v ≡ service e → rules s ≡ true → length st ≡ 64
+    → h ≡ heard v s → c ≡ changeOf v s (read st) → SizesFor c st z → Turning c z h s st
+turning e s st v c z a r size k told sizes =
     record {
-      suits = suits-asked v s st c r k;
-      sizes = told;
-      before = fit s r;
-      after = fit-asked v s st c (rules-after e s st v h r) k;
+      asks = v;
+      heard = k;
+      suits = suits-asked v s st c r told;
+      sizes = sizes;
+      after = fit-asked v s st c (rules-after e s st v a r) told;
       size = size;
     }
 
-pub staying : (e : List ℕ) (s : State) (st : List ℕ) (v : Service) (c : Change) {q : Reply} → v ≡ service e → rules s ≡ true → altersOf c ≡ false
-    → c ≡ changeOf v s (read st) → IsReply v q s → Staying v q s
-staying e s st v c h r a k q =
-    record { answer = q; kept = r; after = fit-stayed c v s st a (fit-asked v s st c (rules-after e s st v h r) k) }
+pub staying : (e : List ℕ) (s : State) (st : List ℕ) (v : Service) (c : Change) {q : Reply} {h : Core} → v ≡ service e → rules s ≡ true
+    → altersOf c ≡ false → h ≡ heard v s → c ≡ changeOf v s (read st) → IsReply v q s → Staying v q h s
+staying e s st v c a r still k told q =
+    record { heard = k; answer = q; kept = r; after = fit-stayed c v s st still (fit-asked v s st c (rules-after e s st v a r) told) }
 
 -- ---- The power-on
 

@@ -2,22 +2,24 @@
 use Prim.Native.Nat.{ℕ}
 use mathlib.Core.Path.{_≡_}
 use mathlib.Core.Bool.{Bool, true, false}
-use mathlib.Core.List.{List}
+use mathlib.Core.List.{List, _++_}
 use lib.ListN.{length}
 use Rattle.model.specs.declared.Service.{Service}
 use Rattle.model.specs.declared.Service.the-variants.{Nothing, Tick, Sample, Nmt, Sync, Remote, Sdo, Lss}
 use Rattle.model.specs.declared.Change.{Change}
 use Rattle.model.specs.declared.Reply.{Reply}
+use Rattle.model.specs.declared.Core.{Core}
 use Rattle.model.specs.declared.State.{State}
 use Rattle.model.specs.declared.Answer.{Answer}
 use Rattle.model.specs.Frames.{framesOf}
 use Rattle.model.specs.Store.{read}
 use Rattle.model.specs.Parts.{withCore}
 use Rattle.model.specs.Rules.{rules}
-use Rattle.model.specs.Step.{Outcome, Answered, done, changeOf, reply, heard, changed, reports, served}
+use Rattle.model.specs.Step.{Outcome, Answered, done, changeOf, reply, heard, booted, changed, reports, served}
 use Rattle.image.specs.declared.Sizes.{Sizes}
 use Rattle.rules.specs.Fit.{Fit}
 use Rattle.output.specs.declared.Sent.{Sent}
+use Rattle.output.specs.Sent.{Done, emcyOf, reportedNow}
 use Rattle.step.specs.Asked.{SizesFor, Suits}
 
 -- ---- The calls
@@ -62,16 +64,22 @@ pub record IsReply (v : Service) (r : Reply) (s : State) : Type 0 where
   pub other : reports v ≡ true
   pub frames : framesOf r ≡ reply v s
 
--- what `stayed` may count on
-pub record Staying (v : Service) (r : Reply) (s : State) : Type 0 where
+-- what `stayed` may count on: h is the core after the service
+pub record Staying (v : Service) (r : Reply) (h : Core) (s : State) : Type 0 where
+  pub heard : h ≡ heard v s
   pub answer : IsReply v r s
   pub kept : rules s ≡ true
   pub after : Fit (keptIn v s)
 
--- what `turned` may count on
-pub record Turning (c : Change) (z : Sizes) (v : Service) (s : State) (st : List ℕ) : Type 0 where
+-- what `turned` may count on: h is the core after some service, which the change is made with
+pub record Turning (c : Change) (z : Sizes) (h : Core) (s : State) (st : List ℕ) : Type 0 where
+  pub asks : Service
+  pub heard : h ≡ heard asks s
   pub suits : Suits c
   pub sizes : SizesFor c st z
-  pub before : Fit s
-  pub after : Fit (changed c v s (read st))
+  pub after : Fit (changed c asks s (read st))
   pub size : length st ≡ 64
+
+-- what `turned` comes to: the reply, the boot-up and EMCY went out, and the state after the change comes back
+abbrev pub Turned : Change → Reply → Service → State → List ℕ → List ℕ → List ℕ → Answer → Type 0
+Turned c q v s st xs ys r = let t = changed c v s (read st) in Done (framesOf q ++ (booted c ++ emcyOf t)) (reportedNow t) xs ys r

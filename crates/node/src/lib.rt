@@ -37,11 +37,11 @@ ghost use mathlib.Core.Path.{_≡_};
 ghost use mathlib.Core.List.{_++_};
 ghost use Prim.Native.Nat.{_≤_};
 ghost use lib.ListN.{length};
+ghost use Rattle.model.specs.declared.Service.{Service};
 ghost use Rattle.model.specs.Frames.{framesOf};
-ghost use Rattle.model.specs.Store.{read};
 ghost use Rattle.model.specs.Step as Step;
-ghost use Rattle.output.specs.Sent.{Leaves, Done, emcyOf, reportedNow};
-ghost use Rattle.node.specs.Gives.{Gives, turnedAway, left, movesOf, keptIn, IsReply, Staying, Turning};
+ghost use Rattle.output.specs.Sent.{Leaves, emcyOf, reportedNow};
+ghost use Rattle.node.specs.Gives.{Gives, turnedAway, left, movesOf, keptIn, IsReply, Staying, Turning, Turned};
 
 // ---- A service that leaves the parameters
 
@@ -75,12 +75,12 @@ fn moves(v: Service) -> bool
     }
 }
 
-// The core after such a service, and what is sent: EMCY where it can be due (a sample and an NMT command have no reply), else the reply.
-fn stayed(v: Service, reply: Reply, s: State, out: &mut [u8]) -> Sent
-    requires { ⌜ Staying v reply s × (48 ≤ length (now out)) ⌝ }
+// The core h that such a service leaves, and what is sent: EMCY where it can be due (a sample and an NMT command have no reply), else the reply.
+fn stayed(v: Service, reply: Reply, h: Core, s: State, out: &mut [u8]) -> Sent
+    requires { ⌜ Staying v reply h s × (48 ≤ length (now out)) ⌝ }
     ensures { λ r. ⌜ Leaves (framesOf reply ++ emcyOf (keptIn v s)) (reportedNow (keptIn v s) .core) (now (out .entry)) (now (out .exit)) r ⌝ }
 {
-    let mut core = heard(v, s);
+    let mut core = h;
     if moves(v) {
         let application = s.settings.application;
         let judged = judge(application, core);
@@ -101,22 +101,24 @@ fn stayed(v: Service, reply: Reply, s: State, out: &mut [u8]) -> Sent
 
 // ---- A change that touches the parameters
 
-// Those after it, the rest of the state, and what is sent. The store is read where the change is a load, of which z are the sizes.
+// Those after it, the rest of the state, and what is sent. h is the core that the service leaves. The store is read where the change is a load,
+// and then z are the sizes of what is saved.
 fn turned(
     c: Change,
     z: Sizes,
     reply: Reply,
-    v: Service,
+    h: Core,
     s: State,
     out: &mut [u8],
     store: &[u8],
 ) -> Answer
-    requires { ⌜ Turning c z v s (now store) × (48 ≤ length (now out)) ⌝ }
-    ensures { λ r. ⌜ Done (framesOf reply ++ (Step.booted c ++ emcyOf (Step.changed c v s (read (now (store .entry)))))) (reportedNow (Step.changed c v s (read (now (store .entry))))) (now (out .entry)) (now (out .exit)) r ⌝ }
+    requires { ⌜ Turning c z h s (now store) × (48 ≤ length (now out)) ⌝ }
+    ensures { λ r. ⌜ ((v : Service) → h ≡ Step.heard v s → Turned c reply v s (now (store .entry)) (now (out .entry)) (now (out .exit)) r) ⌝ }
 {
     let old = s.settings;
     let settings = settled(c, old, store, z);
-    let mut core = core_after(c, v, s, settings, store, z);
+    let was = s.core;
+    let mut core = core_after(c, h, was, settings, store, z);
     let application = settings.application;
     let judged = judge(application, core);
     let boot = booted(c);
@@ -141,15 +143,15 @@ fn altered(
     c: Change,
     z: Sizes,
     reply: Reply,
-    v: Service,
+    h: Core,
     s: State,
     out: &mut [u8],
     store: &mut [u8],
 ) -> Answer
-    requires { ⌜ Turning c z v s (now store) × (IsReply v reply s × (48 ≤ length (now out))) ⌝ }
-    ensures { λ r. ⌜ Gives (Step.given (Step.served c v s (now (store .entry))) (now (out .entry))) r (now (out .exit)) (now (store .exit)) ⌝ }
+    requires { ⌜ Turning c z h s (now store) × (48 ≤ length (now out)) ⌝ }
+    ensures { λ r. ⌜ ((v : Service) → h ≡ Step.heard v s → IsReply v reply s → Gives (Step.given (Step.served c v s (now (store .entry))) (now (out .entry))) r (now (out .exit)) (now (store .exit))) ⌝ }
 {
-    let answer = turned(c, z, reply, v, s, out, store);
+    let answer = turned(c, z, reply, h, s, out, store);
     keep(c, s, store);
     answer
 }
@@ -216,7 +218,8 @@ fn wake(identity: Identity, out: &mut [u8], store: &[u8]) -> Answer
     let saved = address_sized(store, z);
     let c = Change::Load(Groups::Both, saved.id);
     let s = unborn(identity);
-    turned(c, z, silent(), Service::Nothing, s, out, store)
+    let h = s.core;
+    turned(c, z, silent(), h, s, out, store)
 }
 
 // Power-on. A refused one hands back the state that a store of zeros gives, and what that would send goes nowhere.
@@ -252,12 +255,13 @@ pub fn event(event: &[u8], state: State, out: &mut [u8], store: &mut [u8]) -> An
             let asked = ask(v, state, store);
             let c = asked.change;
             let reply = asked.reply;
+            let h = heard(v, state);
             if alters(c) {
                 let z = asked.sizes;
-                return altered(c, z, reply, v, state, out, store);
+                return altered(c, z, reply, h, state, out, store);
             }
             keep(c, state, store);
-            answered(stayed(v, reply, state, out), state)
+            answered(stayed(v, reply, h, state, out), state)
         }
     }
 }

@@ -20,10 +20,8 @@ same-length-2 c = search needs
 returns : tie.Need-returns
 returns c =
     let c6 = c .before .before .before .before .before .before in
-    let c11 = c6 .before .before .before .before .before in
-    let a = c11 .args in
-    let answer = c11 .pre .1 .0 in
-    gives-served (a .c) (a .v) (a .s) (a .store .now) (answer .other) (answer .frames) refl refl (c .before .before .keep .ensures) (c6 .turned .ensures)
+    let a = c6 .before .before .before .before .before .args in
+    λ v heard answer. gives-served (a .c) v (a .s) (a .store .now) (answer .other) (answer .frames) refl refl (c .before .before .keep .ensures) (c6 .turned .ensures v heard)
 
 pub altered-spec : {M : Type 1} → statement M
 altered-spec =

@@ -48,19 +48,24 @@ ask-requires c κs =
     let v = c .before .before .service .result in
     (no-tick v (c .before .match .keys3), (part-ok _ v (c .before .before .service .ensures), (fit s (ok .kept), ok .lent .size)))
 
+heard-requires : tie.Need-heard-requires
+heard-requires c κs =
+    let c6 = c .before .before .before .before .before .before in
+    let s = c6 .before .before .before .before .args .state in
+    fit s (accepted _ s _ _ (sym (c6 .refusal .ensures) ∙ c .before .before .before .before .before .if1 .left) .kept)
+
 alters-requires : tie.Need-alters-requires
 alters-requires c κs = search needs
 
 altered-requires : tie.Need-altered-requires
 altered-requires c κs =
-    let c6 = c .before .before .before .before .before .before in
-    let c9 = c6 .before .before .before in
-    let c11 = c9 .before .before in
-    let s = c11 .before .before .before .before .args .state in
-    let ok = accepted _ s _ _ (sym (c11 .refusal .ensures) ∙ c9 .before .if1 .left) in
-    let v = c9 .service .result in
-    let asked = c6 .ask .ensures in
-    (turning _ s _ v _ _ (c9 .service .ensures) (ok .kept) (ok .lent .size) (asked .change) (asked .sizes), (record { other = no-tick v (c6 .before .before .match .keys3); frames = asked .frames }, ok .lent .room))
+    let c5 = c .before .before .before .before .before in
+    let c10 = c5 .before .before .before .before .before in
+    let c12 = c10 .before .before in
+    let s = c12 .before .before .before .before .args .state in
+    let ok = accepted _ s _ _ (sym (c12 .refusal .ensures) ∙ c10 .before .if1 .left) in
+    let asked = c5 .before .before .ask .ensures in
+    (turning _ s _ (c10 .service .result) _ _ (c10 .service .ensures) (ok .kept) (ok .lent .size) (c5 .heard .ensures) (asked .change) (asked .sizes), ok .lent .room)
 
 same-length : tie.Need-same-length
 same-length c = search needs
@@ -71,30 +76,36 @@ same-length-2 c = search needs
 returns-2 : tie.Need-returns-2
 returns-2 c =
     let c4 = c .before .before .before .before in
-    let c11 = c4 .before .before .before .before .before .before .before in
-    let c14 = c11 .before .before .before in
-    let c16 = c14 .before .before in
-    let a = c16 .before .before .before .before .args in
-    event-done (a .event .now) (a .state) (a .out .now) (a .store .now) _ (c16 .refusal .ensures) (c14 .before .if1 .left) (c14 .service .ensures)
-    (of-change _ (a .state) (a .store .now) _ (c11 .ask .ensures .change) (c4 .altered .ensures))
+    let c10 = c4 .before .before .before .before .before .before in
+    let c12 = c10 .before .before in
+    let c15 = c12 .before .before .before in
+    let c17 = c15 .before .before in
+    let a = c17 .before .before .before .before .args in
+    let v = c15 .service .result in
+    event-done (a .event .now) (a .state) (a .out .now) (a .store .now) _ (c17 .refusal .ensures) (c15 .before .if1 .left) (c15 .service .ensures)
+    (of-change v (a .state) (a .store .now) _ (c12 .ask .ensures .change) (c4 .altered .ensures v (c10 .heard .ensures) (record { other = no-tick v (c12 .before .before .match .keys3); frames = c12 .ask .ensures .frames })))
 
 keep-requires : tie.Need-keep-requires
 keep-requires c κs =
-    let c9 = c .before .before .before .before .before .before .before .before .before in
-    accepted _ (c9 .before .before .before .before .args .state) _ _ (sym (c9 .refusal .ensures) ∙ c .before .before .before .before .before .before .before .before .if1 .left) .lent .size
+    let c10 = c .before .before .before .before .before .before .before .before .before .before in
+    accepted _ (c10 .before .before .before .before .args .state) _ _
+    (sym (c10 .refusal .ensures) ∙ c .before .before .before .before .before .before .before .before .before .if1 .left) .lent .size
 
 stayed-requires : tie.Need-stayed-requires
 stayed-requires c κs =
     let c6 = c .before .before .before .before .before .before in
-    let c8 = c6 .before .before in
-    let c11 = c8 .before .before .before in
-    let c13 = c11 .before .before in
-    let s = c13 .before .before .before .before .args .state in
-    let ok = accepted _ s _ _ (sym (c13 .refusal .ensures) ∙ c11 .before .if1 .left) in
-    let v = c11 .service .result in
-    let asked = c8 .ask .ensures in
-    let still = sym (c6 .alters .ensures) ∙ c .before .before .before .before .before .if2 .left in
-    (staying _ s _ v _ (c11 .service .ensures) (ok .kept) still (asked .change) (record { other = no-tick v (c8 .before .before .match .keys3); frames = asked .frames }), ok .lent .room)
+    let c9 = c6 .before .before .before in
+    let c12 = c9 .before .before .before in
+    let c14 = c12 .before .before in
+    let s = c14 .before .before .before .before .args .state in
+    let ok = accepted _ s _ _ (sym (c14 .refusal .ensures) ∙ c12 .before .if1 .left) in
+    let v = c12 .service .result in
+    let asked = c9 .ask .ensures in
+    let still = sym (c6 .alters .ensures) ∙ c .before .before .before .before .before .if2 .left in (
+      staying _ s _ v _ (c12 .service .ensures) (ok .kept) still (c6 .before .heard .ensures) (asked .change)
+          (record { other = no-tick v (c9 .before .before .match .keys3); frames = asked .frames }),
+      ok .lent .room,
+    )
 
 answered-requires-2 : tie.Need-answered-requires-2
 answered-requires-2 c κs = search needs
@@ -131,17 +142,17 @@ returns-5 : tie.Need-returns-5
 returns-5 c =
     let c7 = c .before .before .before .before .before .before .before in
     let c10 = c7 .before .before .before in
-    let c12 = c10 .before .before in
-    let c15 = c12 .before .before .before in
-    let c17 = c15 .before .before in
-    let a = c17 .before .before .before .before .args in
-    let v = c15 .service .result in
-    let asked = c12 .ask .ensures in
+    let c13 = c10 .before .before .before in
+    let c16 = c13 .before .before .before in
+    let c18 = c16 .before .before in
+    let a = c18 .before .before .before .before .args in
+    let v = c16 .service .result in
+    let asked = c13 .ask .ensures in
     let still = sym (c10 .alters .ensures) ∙ c7 .before .before .if2 .left in
     rw (c .answered2 .ensures)
-    (event-done (a .event .now) (a .state) (a .out .now) (a .store .now) _ (c17 .refusal .ensures) (c15 .before .if1 .left) (c15 .service .ensures)
+    (event-done (a .event .now) (a .state) (a .out .now) (a .store .now) _ (c18 .refusal .ensures) (c16 .before .if1 .left) (c16 .service .ensures)
     (of-change v (a .state) (a .store .now) _ (asked .change)
-    (gives-stayed _ v (a .state) (a .store .now) still (no-tick v (c12 .before .before .match .keys3)) (asked .frames) (c7 .keep .ensures) (c .before .before .before .stayed .ensures))))
+    (gives-stayed _ v (a .state) (a .store .now) still (no-tick v (c13 .before .before .match .keys3)) (asked .frames) (c7 .keep .ensures) (c .before .before .before .stayed .ensures))))
 
 pub event-spec : {M : Type 1} → statement M
 event-spec =
@@ -157,6 +168,7 @@ event-spec =
     tick-requires
     answered-requires
     ask-requires
+    heard-requires
     alters-requires
     altered-requires
     same-length

@@ -18,10 +18,10 @@ core-after-requires c κs = search needs
 
 judge-requires : tie.Need-judge-requires
 judge-requires c κs =
-    let c6 = c .before .before .before .before .before .before in
-    let after = c6 .pre .0 .after in
-    let settled = c .before .before .settled .ensures in
-    (rw settled (after .digits), rw (c .before .core-after .ensures, settled) (after .id))
+    let c7 = c .before .before .before .before .before .before .before in
+    let p = c7 .pre .0 in
+    let settled = c .before .before .before .settled .ensures in
+    (rw settled (p .after .digits), rw (c .before .core-after .ensures (p .asks) (c7 .args .s) (p .heard) refl, settled) (p .after .id))
 
 booted-requires : tie.Need-booted-requires
 booted-requires c κs = search needs
@@ -36,17 +36,17 @@ returns : tie.Need-returns
 returns c =
     let c6 = c .before .before .before .before .before .before in
     let c9 = c6 .before .before .before in
-    let c14 = c9 .before .before .before .before .before in
-    let a = c14 .args in
+    let a = c9 .before .before .before .before .before .before .args in
     let st = read (a .store .now) in
-    let settled = c9 .before .settled .ensures in
-    let core = c9 .core-after .ensures in
-    let judged =
-    c6 .before .judge .ensures (Step.changed (a .c) (a .v) (a .s) st) (ap (λ (k : Settings). k .application) (sym settled))
-    (sym (core ∙ ap (Step.coreAfter (a .c) (a .v) (a .s) st) settled)) in
+    let settled = c9 .before .before .settled .ensures in
     let reply = framesOf (a .reply) in
     let boot = framesOf (c6 .booted .result) in
     let emcy = framesOf (c6 .before .judge .result .emcy) in
+    λ v heard.
+    let core = c9 .core-after .ensures v (a .s) heard refl in
+    let judged =
+    c6 .before .judge .ensures (Step.changed (a .c) v (a .s) st) (ap (λ (k : Settings). k .application) (sym settled))
+    (sym (core ∙ ap (Step.coreAfter (a .c) v (a .s) st) settled)) in
     let order =
     append-assoc reply boot emcy ∙ ap (λ fs. reply ++ (fs ++ emcy)) (c6 .booted .ensures) ∙ ap (λ fs. reply ++ (Step.booted (a .c) ++ fs)) (judged .emcy) in
     record { number = refl; laid = laid-as (c .before .before .before .send .ensures) order; state = rw (judged .reported, core, settled) }
