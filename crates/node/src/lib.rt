@@ -30,7 +30,7 @@ use step::change::core_after;
 use step::change::keep;
 use step::change::settled;
 use step::heard::heard;
-use store::load::address_sized;
+use store::load::address;
 use store::saved::saved_sizes;
 use wire::frames::emit;
 ghost use mathlib.Core.Path.{_≡_};
@@ -215,7 +215,7 @@ fn wake(identity: Identity, out: &mut [u8], store: &[u8]) -> Answer
     ensures { λ r. ⌜ Gives (Step.given (Step.powerOn identity (now (store .entry))) (now (out .entry))) r (now (out .exit)) (now (store .entry)) ⌝ }
 {
     let z = saved_sizes(store);
-    let saved = address_sized(store, z);
+    let saved = address(store, z);
     let c = Change::Load(Groups::Both, saved.id);
     let s = unborn(identity);
     let h = s.core;

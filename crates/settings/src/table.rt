@@ -3,7 +3,6 @@ use super::values::float_of;
 use super::values::number_of;
 use model::Application;
 use model::Communication;
-use model::Group;
 use model::Kind;
 use model::Parameter;
 use model::Scaling;
@@ -44,22 +43,6 @@ pub fn kind(p: Parameter) -> Kind
         Parameter::P1301s5 | Parameter::P1301s6 => Kind::U32,
         Parameter::P6121 | Parameter::P6123 | Parameter::P6124 => Kind::Real32,
         _ => Kind::U8,
-    }
-}
-
-// The group that it is saved with.
-pub fn group(p: Parameter) -> Group
-    ensures { λ r. ⌜ r ≡ Table.row p .group ⌝ }
-{
-    match p {
-        Parameter::P2330
-        | Parameter::P6121
-        | Parameter::P6123
-        | Parameter::P6124
-        | Parameter::P6132
-        | Parameter::P51FE
-        | Parameter::P51FF => Group::A,
-        _ => Group::C,
     }
 }
 
@@ -146,31 +129,6 @@ pub fn second_cob(id: u8) -> u32
         0x180
     } else {
         0x100 + 2 * id as u32
-    }
-}
-
-// The default of a parameter for a Node-ID.
-pub fn default_of(p: Parameter, id: u8) -> Value
-    ensures { λ r. ⌜ r ≡ Table.row p .default id ⌝ }
-{
-    match p {
-        Parameter::P1017 => Value::U16(0),
-        Parameter::P1301s1 => Value::U8(1),
-        Parameter::P1301s2 => Value::U16(25),
-        Parameter::P1301s3 => Value::U8(20),
-        Parameter::P1301s5 => Value::U32(first_cob(id)),
-        Parameter::P1301s6 => Value::U32(second_cob(id)),
-        Parameter::P1800s2 => Value::U8(254),
-        Parameter::P1800s5 => Value::U16(100),
-        Parameter::P13FE => Value::U8(0),
-        Parameter::P13FF => Value::U16(0),
-        Parameter::P2330 => Value::U8(0),
-        Parameter::P6121 => Value::Real32(0.0),
-        Parameter::P6123 => Value::Real32(160.0),
-        Parameter::P6124 => Value::Real32(0.0),
-        Parameter::P6132 => Value::U8(2),
-        Parameter::P51FE => Value::U8(0),
-        Parameter::P51FF => Value::U16(0),
     }
 }
 

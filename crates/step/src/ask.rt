@@ -12,7 +12,7 @@ use model::Service;
 use model::State;
 use nmt::is_for;
 use sdo::serve::serve;
-use store::load::address_sized;
+use store::load::address;
 use store::saved::saved_sizes;
 use time::frames::reading_of;
 use time::frames::tpdo_frame;
@@ -101,7 +101,7 @@ fn ask_nmt(command: u8, to: u8, s: State, store: &[u8]) -> Asked
     match command {
         129 => {
             let sizes = saved_sizes(store);
-            let saved = address_sized(store, sizes);
+            let saved = address(store, sizes);
             let change = Change::Load(Groups::Both, saved.id);
             let reply = silent();
             Asked {

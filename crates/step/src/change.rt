@@ -11,8 +11,8 @@ use nmt::boot_up;
 use nmt::reset;
 use settings::change::take_out;
 use settings::change::write;
-use store::load::address_sized;
-use store::load::load_sized;
+use store::load::address;
+use store::load::load;
 use store::write::readdress;
 use store::write::save;
 use time::restarts::restart;
@@ -37,7 +37,7 @@ pub fn settled(c: Change, k: Settings, store: &[u8], z: Sizes) -> Settings
     match c {
         Change::Write(p, x) => write(k, p, x),
         Change::TakeOut(gs) => take_out(k, gs),
-        Change::Load(gs, id) => load_sized(gs, id, k, store, z),
+        Change::Load(gs, id) => load(gs, id, k, store, z),
         _ => k,
     }
 }
@@ -47,7 +47,7 @@ fn loaded(gs: Groups, id: u8, k: Settings, c: Core, store: &[u8], z: Sizes) -> C
     requires { ⌜ (length (now store) ≡ 64) × Kept (now store) z ⌝ }
     ensures { λ r. ⌜ r ≡ Nmt.reset gs id (read (now (store .entry))) k c ⌝ }
 {
-    let saved = address_sized(store, z);
+    let saved = address(store, z);
     reset(gs, id, saved.bit, k, c)
 }
 

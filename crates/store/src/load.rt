@@ -1,5 +1,4 @@
 // Loads: a group is that part of the store or, where it is absent, of the factory block.
-use super::saved::saved_sizes;
 use image::Sizes;
 use model::Address;
 use model::Groups;
@@ -126,8 +125,8 @@ fn load_groups<'a>(
     }
 }
 
-// The same, by the sizes of what is saved in the store.
-pub fn load_sized(gs: Groups, id: u8, k: Settings, store: &[u8], s: Sizes) -> Settings
+// The settings k, with these groups loaded for the active ID, by the sizes of what is saved in the store.
+pub fn load(gs: Groups, id: u8, k: Settings, store: &[u8], s: Sizes) -> Settings
     requires { ⌜ (length (now store) ≡ 64) × Kept (now store) s ⌝ }
     ensures { λ r. ⌜ r ≡ applied (Change.Load gs id) k (Store.read (now (store .entry))) ⌝ }
 {
@@ -135,18 +134,10 @@ pub fn load_sized(gs: Groups, id: u8, k: Settings, store: &[u8], s: Sizes) -> Se
     load_groups(gs, id, k, store, &block, s)
 }
 
-// The settings k, with these groups loaded for the active ID.
-pub fn load(gs: Groups, id: u8, k: Settings, store: &[u8]) -> Settings
-    requires { ⌜ length (now store) ≡ 64 ⌝ }
-    ensures { λ r. ⌜ r ≡ applied (Change.Load gs id) k (Store.read (now (store .entry))) ⌝ }
-{
-    load_sized(gs, id, k, store, saved_sizes(store))
-}
-
 // ---- Node-ID and bit index at a load
 
 // Those of N, by the sizes of what is saved; 1 and 3 where N is absent.
-pub fn address_sized(store: &[u8], s: Sizes) -> Address
+pub fn address(store: &[u8], s: Sizes) -> Address
     requires { ⌜ (length (now store) ≡ 64) × Kept (now store) s ⌝ }
     ensures { λ r. ⌜ r ≡ Store.addressFrom (Store.read (now (store .entry))) ⌝ }
 {
@@ -159,12 +150,4 @@ pub fn address_sized(store: &[u8], s: Sizes) -> Address
         id: byte(n, 0),
         bit: byte(n, 1),
     }
-}
-
-// Those of the store.
-pub fn address(store: &[u8]) -> Address
-    requires { ⌜ length (now store) ≡ 64 ⌝ }
-    ensures { λ r. ⌜ r ≡ Store.addressFrom (Store.read (now (store .entry))) ⌝ }
-{
-    address_sized(store, saved_sizes(store))
 }

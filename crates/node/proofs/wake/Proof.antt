@@ -13,8 +13,8 @@ use Rattle.node.proofs.wake.Tie as tie
 saved-sizes-requires : tie.Need-saved-sizes-requires
 saved-sizes-requires c κs = search needs
 
-address-sized-requires : tie.Need-address-sized-requires
-address-sized-requires c κs = search needs
+address-requires : tie.Need-address-requires
+address-requires c κs = search needs
 
 unborn-requires : tie.Need-unborn-requires
 unborn-requires c κs = search needs
@@ -27,7 +27,7 @@ unfolding Step.heard
 turned-requires c κs =
     let c3 = c .before .before .before in
     let c8 = c3 .before .before .before .before .before in
-    let loads = ap (λ (a : Address). Load Both (a .id)) (c3 .before .address-sized .ensures) in (
+    let loads = ap (λ (a : Address). Load Both (a .id)) (c3 .before .address .ensures) in (
       record {
         asks = Service.Nothing;
         heard = refl;
@@ -50,7 +50,7 @@ returns c =
     let c11 = c7 .before .before .before .before in
     let i = c11 .args .identity in
     let st = c11 .args .store .now in
-    let loads = ap (λ (a : Address). Load Both (a .id)) (c7 .address-sized .ensures) in
+    let loads = ap (λ (a : Address). Load Both (a .id)) (c7 .address .ensures) in
     of-change Service.Nothing (Step.unborn i) st _ loads
     (gives-served _ Service.Nothing (Step.unborn i) st refl (c .before .before .before .before .silent .ensures) refl refl (load-leaves i st _ loads)
     (rw (c6 .unborn .ensures) at (c .before .before .turned .ensures Service.Nothing refl)))
@@ -60,7 +60,7 @@ wake-spec =
     tie.close
     (tie.spec
     saved-sizes-requires
-    address-sized-requires
+    address-requires
     unborn-requires
     silent-requires
     turned-requires

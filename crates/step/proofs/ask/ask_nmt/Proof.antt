@@ -39,8 +39,8 @@ returns c =
 saved-sizes-requires : tie.Need-saved-sizes-requires
 saved-sizes-requires c κs = search needs
 
-address-sized-requires : tie.Need-address-sized-requires
-address-sized-requires c κs = search needs
+address-requires : tie.Need-address-requires
+address-requires c κs = search needs
 
 silent-requires : tie.Need-silent-requires
 silent-requires c κs = search needs
@@ -60,7 +60,7 @@ returns-2 c =
     let c3 = c .before .before .before in
     let c5 = c3 .before .before in
     record {
-      change = rw (← (c5 .is-for .ensures), not-false (c5 .is-for .result) (c3 .before .if1 .left), c3 .match .keys1, c .before .address-sized .ensures);
+      change = rw (← (c5 .is-for .ensures), not-false (c5 .is-for .result) (c3 .before .if1 .left), c3 .match .keys1, c .before .address .ensures);
       frames = c .silent .ensures;
       sizes = c .before .before .saved-sizes .ensures;
     }
@@ -93,7 +93,7 @@ ask-nmt-spec =
     no-reset-requires
     returns
     saved-sizes-requires
-    address-sized-requires
+    address-requires
     silent-requires
     saved-sizes-requires-2
     silent-requires-2

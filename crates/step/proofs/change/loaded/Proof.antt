@@ -5,14 +5,14 @@ use borrow.Author.Needs.{needs}
 use Rattle.step.proofs.change.loaded.Statement.{statement}
 use Rattle.step.proofs.change.loaded.Tie as tie
 
-address-sized-requires : tie.Need-address-sized-requires
-address-sized-requires c κs = search needs
+address-requires : tie.Need-address-requires
+address-requires c κs = search needs
 
 reset-requires : tie.Need-reset-requires
 reset-requires c κs = search needs
 
 returns : tie.Need-returns
-returns c = c .reset .ensures _ (sym (ap (λ (a : Address). a .bit) (c .before .address-sized .ensures)))
+returns c = c .reset .ensures _ (sym (ap (λ (a : Address). a .bit) (c .before .address .ensures)))
 
 pub loaded-spec : {M : Type 1} → statement M
-loaded-spec = tie.close (tie.spec address-sized-requires reset-requires returns)
+loaded-spec = tie.close (tie.spec address-requires reset-requires returns)

@@ -42,8 +42,8 @@ take-out-requires c κs = search needs
 enum-known-c-3 : tie.Need-enum-known-c-3
 enum-known-c-3 c = search needs
 
-load-sized-requires : tie.Need-load-sized-requires
-load-sized-requires c κs = let c4 = c .before .before .before .before in (c4 .pre .1 .1, rw (c .before .c3 .given .1) at (c4 .pre .1 .0))
+load-requires : tie.Need-load-requires
+load-requires c κs = let c4 = c .before .before .before .before in (c4 .pre .1 .1, rw (c .before .c3 .given .1) at (c4 .pre .1 .0))
 
 returns : tie.Need-returns
 unfolding applied effect
@@ -54,7 +54,7 @@ unfolding applied effect
 returns-2 c = rw (c .take-out .ensures, c .before .before .c2 .given .1)
 
 returns-3 : tie.Need-returns-3
-returns-3 c = rw (c .load-sized .ensures, c .before .before .c3 .given .1)
+returns-3 c = rw (c .load .ensures, c .before .before .c3 .given .1)
 
 returns-4 : tie.Need-returns-4
 returns-4 c = others (c .before .before .args .c) (c .before .before .args .k) _ (c .match .keys4)
@@ -68,7 +68,7 @@ settled-spec =
     enum-known-c-2
     take-out-requires
     enum-known-c-3
-    load-sized-requires
+    load-requires
     returns
     returns-2
     returns-3

@@ -1,9 +1,9 @@
--- `load::address_sized` meets its contract: the part that the size says is the saved N. Assumes nothing.
+-- `load::address` meets its contract: the part that the size says is the saved N. Assumes nothing.
 use denote.Ref.{now}
 use Rattle.store.proofs.Loads.{no-address, an-address}
 use borrow.Author.Needs.{needs}
-use Rattle.store.proofs.load.address_sized.Statement.{statement}
-use Rattle.store.proofs.load.address_sized.Tie as tie
+use Rattle.store.proofs.load.address.Statement.{statement}
+use Rattle.store.proofs.load.address.Tie as tie
 
 returns : tie.Need-returns
 returns c = let s = c .before .before in
@@ -24,6 +24,6 @@ returns-2 c = let s = c .before .before .before .before .before in
     rw (c .byte2 .ensures, c .before .byte .ensures)
     (an-address (now (s .args .store)) (now (n .result)) (s .args .s) (s .pre .1) (n .ensures .0) (n .ensures .1) (c .before .before .before .if1 .left))
 
-pub address-sized-spec : {M : Type 1} → statement M
-address-sized-spec =
+pub address-spec : {M : Type 1} → statement M
+address-spec =
     tie.close (tie.spec returns part-of-requires byte-requires byte-requires-2 returns-2)
