@@ -37,6 +37,7 @@ use Rattle.lss.proofs.Asked.{asked-part}
 use Rattle.wire.proofs.Lay.{start}
 use Rattle.rules.specs.Fit.{Fit}
 use Rattle.rules.proofs.Fits.{fit}
+use Rattle.rules.proofs.Accepted.{Accepted, accepted}
 use Rattle.step.specs.Asked.{SizesFor, Suits, altersOf}
 use Rattle.image.specs.declared.Sizes.{Sizes}
 use Rattle.step.proofs.Suit.{suits}
@@ -150,6 +151,10 @@ fit-stayed (Load gs id) v s st a f = absurd (false≢true (sym a))
 fit-stayed SavePending v s st a f = f
 
 -- ---- The event
+
+-- what a call that is not refused may count on, by the number that its code has found
+pub admitted : (e : List ℕ) (s : State) (out st : ℕ) {n : ℕ} → n ≡ refusal e s out st → n ≡ 0 → Accepted s out st
+admitted e s out st a z = accepted e s out st (sym a ∙ z)
 
 pub event-done : (e : List ℕ) (s : State) (out st : List ℕ) (n : ℕ) {v : Service} {r : Answer} {ys zs : List ℕ}
     → n ≡ refusal e s (length out) (length st) → n ≡ 0 → v ≡ service e

@@ -1,8 +1,7 @@
 -- `node::event` meets its contract: refused, or by what the event asks: nothing, a tick, a change of parameters, or any other service. Assumes nothing.
 use mathlib.Core.Path.{sym, _∙_}
 use Rattle.rules.proofs.Fits.{fit}
-use Rattle.rules.proofs.Accepted.{accepted}
-use Rattle.node.proofs.Outcomes.{gives-nothing, gives-tick, gives-stayed, of-change, event-done, event-refused, no-tick, part-ok, turning, staying}
+use Rattle.node.proofs.Outcomes.{admitted, gives-nothing, gives-tick, gives-stayed, of-change, event-done, event-refused, no-tick, part-ok, turning, staying}
 use borrow.Author.Needs.{needs}
 use Rattle.node.proofs.event.Statement.{statement}
 use Rattle.node.proofs.event.Tie as tie
@@ -34,7 +33,7 @@ tick-requires : tie.Need-tick-requires
 tick-requires c κs =
     let c5 = c .before .before .before .before .before in
     let s = c5 .before .before .before .before .args .state in
-    let ok = accepted _ s _ _ (sym (c5 .refusal .ensures) ∙ c .before .before .before .before .if1 .left) in
+    let ok = admitted _ s _ _ (c5 .refusal .ensures) (c .before .before .before .before .if1 .left) in
     (fit s (ok .kept), ok .lent .room)
 
 answered-requires : tie.Need-answered-requires
@@ -44,7 +43,7 @@ ask-requires : tie.Need-ask-requires
 ask-requires c κs =
     let c4 = c .before .before .before .before in
     let s = c4 .before .before .before .before .args .state in
-    let ok = accepted _ s _ _ (sym (c4 .refusal .ensures) ∙ c .before .before .before .if1 .left) in
+    let ok = admitted _ s _ _ (c4 .refusal .ensures) (c .before .before .before .if1 .left) in
     let v = c .before .before .service .result in
     (no-tick v (c .before .match .keys3), (part-ok _ v (c .before .before .service .ensures), (fit s (ok .kept), ok .lent .size)))
 
@@ -52,7 +51,7 @@ heard-requires : tie.Need-heard-requires
 heard-requires c κs =
     let c6 = c .before .before .before .before .before .before in
     let s = c6 .before .before .before .before .args .state in
-    fit s (accepted _ s _ _ (sym (c6 .refusal .ensures) ∙ c .before .before .before .before .before .if1 .left) .kept)
+    fit s (admitted _ s _ _ (c6 .refusal .ensures) (c .before .before .before .before .before .if1 .left) .kept)
 
 alters-requires : tie.Need-alters-requires
 alters-requires c κs = search needs
@@ -63,7 +62,7 @@ altered-requires c κs =
     let c10 = c5 .before .before .before .before .before in
     let c12 = c10 .before .before in
     let s = c12 .before .before .before .before .args .state in
-    let ok = accepted _ s _ _ (sym (c12 .refusal .ensures) ∙ c10 .before .if1 .left) in
+    let ok = admitted _ s _ _ (c12 .refusal .ensures) (c10 .before .if1 .left) in
     let asked = c5 .before .before .ask .ensures in
     (turning _ s _ (c10 .service .result) _ _ (c10 .service .ensures) (ok .kept) (ok .lent .size) (c5 .heard .ensures) (asked .change) (asked .sizes), ok .lent .room)
 
@@ -88,8 +87,8 @@ returns-2 c =
 keep-requires : tie.Need-keep-requires
 keep-requires c κs =
     let c10 = c .before .before .before .before .before .before .before .before .before .before in
-    accepted _ (c10 .before .before .before .before .args .state) _ _
-    (sym (c10 .refusal .ensures) ∙ c .before .before .before .before .before .before .before .before .before .if1 .left) .lent .size
+    admitted _ (c10 .before .before .before .before .args .state) _ _ (c10 .refusal .ensures)
+    (c .before .before .before .before .before .before .before .before .before .if1 .left) .lent .size
 
 stayed-requires : tie.Need-stayed-requires
 stayed-requires c κs =
@@ -98,7 +97,7 @@ stayed-requires c κs =
     let c12 = c9 .before .before .before in
     let c14 = c12 .before .before in
     let s = c14 .before .before .before .before .args .state in
-    let ok = accepted _ s _ _ (sym (c14 .refusal .ensures) ∙ c12 .before .if1 .left) in
+    let ok = admitted _ s _ _ (c14 .refusal .ensures) (c12 .before .if1 .left) in
     let v = c12 .service .result in
     let asked = c9 .ask .ensures in
     let still = sym (c6 .alters .ensures) ∙ c .before .before .before .before .before .if2 .left in (
@@ -115,7 +114,7 @@ returns-3 c =
     let c5 = c .before .before .before .before .before in
     let a = c5 .before .before .before .before .args in
     let if1 = c .before .before .before .before .if1 .left in
-    let ok = accepted _ (a .state) _ _ (sym (c5 .refusal .ensures) ∙ if1) in
+    let ok = admitted _ (a .state) _ _ (c5 .refusal .ensures) (if1) in
     rw (c .refused2 .ensures)
     (event-done (a .event .now) (a .state) (a .out .now) (a .store .now) _ (c5 .refusal .ensures) if1
     (sym (c .before .enum-told .given .1) ∙ c .before .before .before .service .ensures) (gives-nothing (a .state) _ _ (ok .kept)))
