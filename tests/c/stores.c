@@ -51,14 +51,16 @@ static void run_kind(image_kind kind, const pair *empty)
     }
 }
 
-/* A good image with any one bit changed. */
+/* A good image of all three records, with any one bit changed. */
 static void run_bits(const pair *empty)
 {
     static pair p;
     uint8_t image[SEUMHWARI_STORE];
-    chance c = { 5 };
-    make_image(image, BAD_FILLER, &c, NULL);
-    make_image(image, GOOD, &c, NULL);
+    records made;
+    chance c = { 0 };
+    do
+        make_image(image, GOOD, &c, &made);
+    while (!made.has_n || !made.has_c || !made.has_a);
     for (size_t bit = 0; bit < 8 * sizeof image; bit++) {
         image[bit / 8] ^= (uint8_t)(1u << bit % 8);
         power_on(&p, "a bit changed", image, sizeof image);
