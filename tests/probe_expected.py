@@ -6,7 +6,7 @@ usage: probe_expected.py LIBRARY
 LIBRARY is the peer as a shared library (peer/build.sh makes it).
 """
 import sys
-from run_vectors import Node, load
+from check_peer import Node, load
 
 # NMT state, index, sub, size (0: not indicated), data
 WRITES = [

@@ -1,6 +1,6 @@
 #!/bin/sh
 # Builds the peer into peer/build/: the event program, the coverage counter,
-# the shared library for run_vectors.py and the self-check with sanitizers.
+# the shared library for check_peer.py and the self-check with sanitizers.
 # CC chooses the compiler (cc, gcc, clang); "build.sh check" also runs the
 # self-check.
 set -e

@@ -1,13 +1,13 @@
 #!/usr/bin/env python3
-"""Runs the outside vectors through the peer.
+"""Holds the peer to what is known apart from any node.
 
-usage: run_vectors.py LIBRARY VECTOR_DIRECTORY
+usage: check_peer.py LIBRARY SIGNATURES
 
-LIBRARY is the peer as a shared library (peer/build.sh makes it). The directory
-holds vectors.tsv and signatures.tsv; its README describes the columns. After
-the rows come the marked cases of the requirements page, stores built by hand,
-and a comparison of both PVs with exact fractions. The first difference ends the
-run.
+LIBRARY is the peer as a shared library (peer/build.sh makes it), SIGNATURES the
+makers' (vectors/signatures.tsv). After those come the marked cases of the
+requirements page, stores built by hand, and a comparison of both PVs with exact
+fractions. The first difference ends the run. The makers' other vectors run
+through peer and proved node at once, in c/vectors.c.
 """
 import ctypes
 import random
@@ -103,32 +103,6 @@ def rows(path):
     with open(path, encoding='utf-8') as file:
         lines = [line.rstrip('\n').split('\t') for line in file if line.strip()]
     return lines[0], lines[1:]
-
-
-def run_vectors(lib, path):
-    _, table = rows(path)
-    run = left = 0
-    group = node = None
-    for row in table:
-        name, request, expected = row[0], row[4].strip(), row[5].strip()
-        if request == '-':
-            left += 1
-            continue
-        letters = name.rsplit('-', 1)[0]
-        if letters != group:
-            group, node = letters, None
-        if request.startswith('POWERON'):
-            node = Node(lib, [int(word, 16) for word in request.split()[1:]])
-            found = node.first
-        elif node is None:
-            differ(name, 'a group that starts with POWERON', request)
-        elif request.startswith('TICK*'):
-            found = node.tick(int(request[5:]))
-        else:
-            found = node.send(request)
-        same(name, expected, found)
-        run += 1
-    print('%d rows run, %d rows without a request' % (run, left))
 
 
 def run_signatures(lib, path):
@@ -318,8 +292,7 @@ def main():
     if len(sys.argv) != 3:
         sys.exit(__doc__)
     lib = load(sys.argv[1])
-    run_vectors(lib, sys.argv[2] + '/vectors.tsv')
-    run_signatures(lib, sys.argv[2] + '/signatures.tsv')
+    run_signatures(lib, sys.argv[2])
     run_marked(lib)
     run_store(lib)
     run_fractions(lib)
