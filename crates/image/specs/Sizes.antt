@@ -21,9 +21,13 @@ sizesIn image =
       a = lengthAt 58 (sizeOfRecord A) image;
     }
 
--- s are those sizes, each at most its record's
+-- each size is at most its record's
+pub record Most (s : Sizes) : Type 0 where
+  pub n : s .n ≤ sizeN
+  pub c : s .c ≤ sizeOfRecord C
+  pub a : s .a ≤ sizeOfRecord A
+
+-- s are those sizes
 pub record Sized (image : List ℕ) (s : Sizes) : Type 0 where
   pub told : s ≡ sizesIn image
-  pub n-most : s .n ≤ 2
-  pub c-most : s .c ≤ 21
-  pub a-most : s .a ≤ 17
+  pub most : Most s

@@ -33,6 +33,11 @@ pub and-false : (b : Bool) → b && false ≡ false
 and-false true = refl
 and-false false = refl
 
+-- what either gives
+pub or-case : {P : Type 0} (a b : Bool) → a || b ≡ true → (a ≡ true → P) → (b ≡ true → P) → P
+or-case true b h f g = f refl
+or-case false b h f g = g h
+
 -- one implies the other
 pub implies : (a b : Bool) → a ≡ true → not a || b ≡ true → b ≡ true
 implies a b e h = rw e at h

@@ -65,13 +65,17 @@ outputSize = 48
 abbrev pub storeSize : ℕ
 storeSize = 64
 
+-- a frame whose CAN-ID, flag or length is none
+abbrev pub badFrameIn : List ℕ → Bool
+badFrameIn e = ltb 2047 (canId e) || (ltb 1 (flagIn e) || ltb 8 (lengthIn e))
+
 -- the refusal of an event, by the lengths of output and store
 unfoldable pub refusal : List ℕ → State → ℕ → ℕ → ℕ
 refusal e s out st =
     firstHit
     ((not (eqb (length e) 13) ⇒ notAnEvent)
     ∷ (not (within 1 3 (kindOfEvent e)) ⇒ unknownKind)
-    ∷ (eqb (kindOfEvent e) 1 && (ltb 2047 (canId e) || (ltb 1 (flagIn e) || ltb 8 (lengthIn e))) ⇒ badFrame)
+    ∷ (eqb (kindOfEvent e) 1 && badFrameIn e ⇒ badFrame)
     ∷ (ltb out outputSize ⇒ shortOutput)
     ∷ (not (eqb st storeSize) ⇒ wrongStore)
     ∷ (not (rules s) ⇒ brokenState)
@@ -200,9 +204,13 @@ pub record Answered : Type 0 where
   pub output : List ℕ
   pub store : List ℕ
 
--- a refused call sends nothing and leaves output and store
+-- the answer of a refused call: nothing is sent
+abbrev pub turnedAway : ℕ → State → Answer
+turnedAway n s = record { number = n; count = 0; state = s }
+
+-- it leaves output and store
 abbrev pub refused : ℕ → State → List ℕ → List ℕ → Answered
-refused n s out st = record { answer = record { number = n; count = 0; state = s }; output = out; store = st }
+refused n s out st = record { answer = turnedAway n s; output = out; store = st }
 
 -- a served one lays its frames over the output
 abbrev pub given : Outcome → List ℕ → Answered

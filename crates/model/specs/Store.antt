@@ -168,9 +168,13 @@ abbrev pub factoryPlace : Group → ℕ
 factoryPlace C = 0
 factoryPlace A = sizeOfRecord C
 
--- a group at a load: that part of the store or, where it is absent, of the factory block for the active ID
+-- a group at a load: that part of the store or, where it is absent, of a factory block
+abbrev pub groupOf : Group → List ℕ → Saved → List ℕ
+groupOf g block sv = orElse (saved g sv) (part (factoryPlace g) (sizeOfRecord g) block)
+
+-- that of the active ID
 unfoldable pub groupFrom : Group → ℕ → Saved → List ℕ
-groupFrom g id sv = orElse (saved g sv) (part (factoryPlace g) (sizeOfRecord g) (factory id))
+groupFrom g id sv = groupOf g (factory id) sv
 
 -- the COB-ID rule ("NMT, time, SYNC"): with a C that was saved under another ID these take their defaults, and that of 13FEh is 0
 abbrev pub followsId : Parameter → Bool

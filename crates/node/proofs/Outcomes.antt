@@ -6,28 +6,26 @@ use Prim.Native.Nat.{ℕ, _≤_}
 use lib.Dec.{eqb}
 use lib.ListN.{length}
 use borrow.Author.Tests.{ne-eqb}
-use types.Run.{OneOf, miss}
-use denote.Enum.Declared.{tagOf}
-use Rattle.model.proofs.Service.{the-type}
 use Rattle.model.specs.declared.Service.{Service}
 use Rattle.model.specs.declared.Service.the-variants.{Nothing, Tick, Sample, Nmt, Sync, Remote, Sdo, Lss}
 use Rattle.model.specs.declared.Change.{Change}
 use Rattle.model.specs.declared.Change.the-variants.{Keep, Write, Save, TakeOut, Load, SavePending}
 use Rattle.model.specs.declared.Groups.the-variants.{Both}
 use Rattle.model.specs.declared.Frame.{Frame}
-use Rattle.model.specs.declared.Reply.{Reply}
 use Rattle.model.specs.declared.Identity.{Identity}
 use Rattle.model.specs.declared.Core.{Core}
+use Rattle.model.specs.declared.Fv.{Fv}
 use Rattle.model.specs.declared.State.{State}
 use Rattle.model.specs.declared.Answer.{Answer}
-use Rattle.model.specs.Store.{read, addressFrom}
-use Rattle.model.specs.Parts.{withCore, withReported}
+use Rattle.model.specs.Store.{Saved, read, addressFrom}
+use Rattle.model.specs.Parts.{withCore, withReported, idOf}
 use Rattle.model.specs.Changes.{effect, applied, stored}
 use Rattle.model.specs.Service.{service}
-use Rattle.model.specs.Time.{ticked, tickFrames}
+use Rattle.model.specs.Time.{ticked, tickFrames, sampled, synced, syncFrames, remoteAnswered, remoteFrames}
+use Rattle.model.specs.Nmt.{isFor, resetAsked, nmtChange, commanded}
 use Rattle.model.specs.Rules.{rules, ruleUpload}
-use Rattle.model.specs.Step.{Outcome, refusal, powerOnRefusal, changeOf, reply, heard, coreAfter, booted, changed, reports, served, step, unborn, powerOn, zeroStore, refused, given, eventAnswer, powerOnAnswer}
-use Rattle.laws.proofs.Tests.{within-is}
+use Rattle.model.specs.Step.{Outcome, refusal, powerOnRefusal, changeOf, reply, heard, coreAfter, booted, changed, reports, served, step, unborn, powerOn, zeroStore, turnedAway, refused, given, eventAnswer, powerOnAnswer}
+use Rattle.laws.proofs.Tests.{within-is, cond-case, hit-case}
 use Rattle.laws.proofs.Loading.{address-ok}
 use Rattle.laws.proofs.Allowed.{change-allowed}
 use Rattle.laws.proofs.RulesKept.{step-rules, power-on-rules}
@@ -44,7 +42,8 @@ use Rattle.step.proofs.Suit.{suits}
 use Rattle.output.specs.declared.Sent.{Sent}
 use Rattle.output.specs.Sent.{Done, Leaves, emcyOf, reportedNow}
 use Rattle.output.proofs.Ticks.{laid-as}
-use Rattle.node.specs.Gives.{Gives, turnedAway, left, asked, keptIn, IsReply, Staying, Turning}
+use Rattle.node.proofs.Quiet.{movesOf, calm}
+use Rattle.node.specs.Gives.{Gives, left, asked, keptIn, Turning}
 
 -- the load of a power-on
 abbrev pub firstLoad : List ℕ → Change
@@ -128,27 +127,82 @@ pub gives-nothing : (s : State) (xs st : List ℕ) → rules s ≡ true → Give
 unfolding served changeOf reply coreAfter heard applied effect stored
 gives-nothing s xs st r = rw (quiet-state s r) (record { answer = refl; output = start xs .bytes; store = refl })
 
--- a service whose change leaves the parameters
-pub gives-stayed : (c : Change) (v : Service) (s : State) (st : List ℕ) {fs : List Frame} {xs ys zs : List ℕ} {r : Sent} → altersOf c ≡ false
+-- ---- A change that leaves the parameters
+
+-- the rules hold after an event's service
+rules-after : (e : List ℕ) (s : State) (st : List ℕ) (v : Service) → v ≡ service e → rules s ≡ true → rules (asked v s st .state) ≡ true
+unfolding step
+rules-after e s st v k r = rw k (step-rules e s st r)
+
+left-alone : (c : Change) (v : Service) (s : State) (sv : Saved) → altersOf c ≡ false → (keptIn v s ≡ changed c v s sv) × ([] ≡ booted c)
+unfolding coreAfter applied effect
+left-alone Keep v s sv a = (refl, refl)
+left-alone (Write p x) v s sv a = absurd (false≢true (sym a))
+left-alone (Save gs) v s sv a = (refl, refl)
+left-alone (TakeOut gs) v s sv a = absurd (false≢true (sym a))
+left-alone (Load gs id) v s sv a = absurd (false≢true (sym a))
+left-alone SavePending v s sv a = (refl, refl)
+
+-- the ID after such a service
+pub id-stayed : (e : List ℕ) (s : State) (st : List ℕ) (v : Service) (c : Change) → v ≡ service e → rules s ≡ true → altersOf c ≡ false
+    → c ≡ changeOf v s (read st) → heard v s .active .id ≤ 127
+id-stayed e s st v c k r a told = subst Fit (sym (left-alone c v s (read st) a .0)) (fit-asked v s st c (rules-after e s st v k r) told) .id
+
+-- what it gives: its reply, and EMCY
+gives-stayed : (c : Change) (v : Service) (s : State) (st : List ℕ) {fs : List Frame} {xs ys zs : List ℕ} {r : Sent} → altersOf c ≡ false
     → reports v ≡ true → fs ≡ reply v s → zs ≡ stored c s st → Leaves (fs ++ emcyOf (keptIn v s)) (reportedNow (keptIn v s) .core) xs ys r
     → Gives (given (served c v s st) xs) (left r s) ys zs
-unfolding coreAfter applied effect
-gives-stayed Keep v s st a other e k l = gives-served Keep v s st other e refl refl k (stayed-done l)
-gives-stayed (Write p x) v s st a other e k l = absurd (false≢true (sym a))
-gives-stayed (Save gs) v s st a other e k l = gives-served (Save gs) v s st other e refl refl k (stayed-done l)
-gives-stayed (TakeOut gs) v s st a other e k l = absurd (false≢true (sym a))
-gives-stayed (Load gs id) v s st a other e k l = absurd (false≢true (sym a))
-gives-stayed SavePending v s st a other e k l = gives-served SavePending v s st other e refl refl k (stayed-done l)
+gives-stayed c v s st a other e k l =
+    let alone = left-alone c v s (read st) a in
+    gives-served c v s st other e (alone .1) (alone .0) k (stayed-done l)
 
--- the state after it, but for EMCY
-pub fit-stayed : (c : Change) (v : Service) (s : State) (st : List ℕ) → altersOf c ≡ false → Fit (changed c v s (read st)) → Fit (keptIn v s)
-unfolding coreAfter applied effect
-fit-stayed Keep v s st a f = f
-fit-stayed (Write p x) v s st a f = absurd (false≢true (sym a))
-fit-stayed (Save gs) v s st a f = f
-fit-stayed (TakeOut gs) v s st a f = absurd (false≢true (sym a))
-fit-stayed (Load gs id) v s st a f = absurd (false≢true (sym a))
-fit-stayed SavePending v s st a f = f
+-- its reply alone, where no EMCY can be due
+pub gives-calm : (c : Change) (v : Service) (s : State) (st : List ℕ) {fs : List Frame} {h : Core} {xs ys zs : List ℕ} {r : Sent} → altersOf c ≡ false
+    → reports v ≡ true → movesOf v ≡ false → rules s ≡ true → fs ≡ reply v s → h ≡ heard v s → zs ≡ stored c s st → Leaves fs h xs ys r
+    → Gives (given (served c v s st) xs) (left r s) ys zs
+gives-calm c v s st {fs} a other m ok e k z l =
+    let quiet = calm v s m other ok in
+    gives-stayed c v s st a other e z
+    (record { laid = rw quiet (laid-as (l .laid) (sym (append-nil fs))); core = rw quiet (l .core ∙ k) })
+
+-- EMCY alone, where the service has no reply
+pub gives-judged : (c : Change) (v : Service) (s : State) (st : List ℕ) {h : Core} {xs ys zs : List ℕ} {r : Sent} → altersOf c ≡ false
+    → reports v ≡ true → [] ≡ reply v s → h ≡ heard v s → zs ≡ stored c s st
+    → Leaves (emcyOf (withCore s h)) (reportedNow (withCore s h) .core) xs ys r
+    → Gives (given (served c v s st) xs) (left r s) ys zs
+gives-judged c v s st a other e k z l = gives-stayed c v s st a other e z (rw k at l)
+
+-- a sample, a SYNC and a remote frame change no parameter and no store
+pub gives-sample : (fv : Fv) (s : State) (st : List ℕ) {xs ys : List ℕ} {r : Sent}
+    → (let t = withCore s (sampled fv (s .core)) in Leaves (emcyOf t) (reportedNow t .core) xs ys r) → Gives (given (asked (Sample fv) s st) xs) (left r s) ys st
+unfolding changeOf reply heard stored
+gives-sample fv s st l = gives-judged Keep (Sample fv) s st refl refl refl refl refl l
+
+pub gives-sync : (s : State) (st : List ℕ) {xs ys : List ℕ} {r : Sent} → rules s ≡ true → Leaves (syncFrames s) (synced s) xs ys r
+    → Gives (given (asked Sync s st) xs) (left r s) ys st
+unfolding changeOf reply heard stored
+gives-sync s st ok l = gives-calm Keep Sync s st refl refl refl ok refl refl refl l
+
+pub gives-remote : (to : ℕ) (s : State) (st : List ℕ) {xs ys : List ℕ} {r : Sent} → rules s ≡ true
+    → Leaves (remoteFrames to s) (remoteAnswered to s) xs ys r → Gives (given (asked (Remote to) s st) xs) (left r s) ys st
+unfolding changeOf reply heard stored
+gives-remote to s st ok l = gives-calm Keep (Remote to) s st refl refl refl ok refl refl refl l
+
+-- no NMT command changes the store
+nmt-stored : (command to : ℕ) (s : State) (st : List ℕ) → st ≡ stored (changeOf (Nmt command to) s (read st)) s st
+unfolding changeOf nmtChange resetAsked stored
+nmt-stored command to s st =
+    cond-case (λ (c : Change). st ≡ stored c s st) (isFor to (idOf s))
+    (λ _. hit-case (λ (c : Change). st ≡ stored c s st) _ Keep ((λ _. refl), ((λ _. refl), tt)) refl)
+    (λ _. refl)
+
+-- one that is no reset
+pub gives-nmt : (command to : ℕ) (s : State) (st : List ℕ) {c : Change} {h : Core} {xs ys : List ℕ} {r : Sent} → c ≡ changeOf (Nmt command to) s (read st)
+    → altersOf c ≡ false → h ≡ commanded command to s → Leaves (emcyOf (withCore s h)) (reportedNow (withCore s h) .core) xs ys r
+    → Gives (given (served c (Nmt command to) s st) xs) (left r s) ys st
+unfolding reply heard
+gives-nmt command to s st {c} told a k l =
+    gives-judged c (Nmt command to) s st a refl refl k (rw told (nmt-stored command to s st)) l
 
 -- ---- The event
 
@@ -171,25 +225,6 @@ event-refused e s out st n a z =
     subst (λ (m : ℕ). Gives (cond (eqb m 0) (given (step e s st) out) (refused m s out st)) (turnedAway n s) out st) a
     (rw (ne-eqb n 0 z) (record { answer = refl; output = refl; store = refl }))
 
--- the services that `ask` serves, by their numbers
-abbrev pub others : List ℕ
-others = 2 ∷ 3 ∷ 4 ∷ 5 ∷ 6 ∷ 7 ∷ []
-
-pub no-tick : (v : Service) → OneOf others (tagOf the-type v) → reports v ≡ true
-no-tick Nothing h = refl
-no-tick Tick h = absurd (miss others 1 tt h)
-no-tick (Sample fv) h = refl
-no-tick (Nmt command to) h = refl
-no-tick Sync h = refl
-no-tick (Remote to) h = refl
-no-tick (Sdo to q) h = refl
-no-tick (Lss q) h = refl
-
--- the rules hold after an event's service
-pub rules-after : (e : List ℕ) (s : State) (st : List ℕ) (v : Service) → v ≡ service e → rules s ≡ true → rules (asked v s st .state) ≡ true
-unfolding step
-rules-after e s st v k r = rw k (step-rules e s st r)
-
 pub part-ok : (e : List ℕ) (v : Service) → v ≡ service e → partIn v ≤ 3
 part-ok e v k = rw k (asked-part e)
 
@@ -205,11 +240,6 @@ turning e s st v c z a r size k told sizes =
       after = fit-asked v s st c (rules-after e s st v a r) told;
       size = size;
     }
-
-pub staying : (e : List ℕ) (s : State) (st : List ℕ) (v : Service) (c : Change) {q : Reply} {h : Core} → v ≡ service e → rules s ≡ true
-    → altersOf c ≡ false → h ≡ heard v s → c ≡ changeOf v s (read st) → IsReply v q s → Staying v q h s
-staying e s st v c a r still k told q =
-    record { heard = k; answer = q; kept = r; after = fit-stayed c v s st still (fit-asked v s st c (rules-after e s st v a r) told) }
 
 -- ---- The power-on
 

@@ -1,7 +1,6 @@
--- A service that moves neither FV nor the NMT state makes no EMCY due, and one that does has no reply. Assumes nothing.
-use mathlib.Core.Path.{_≡_, refl, sym}
-use mathlib.Core.Bool.{true, false, false≢true}
-use mathlib.Core.List.{[]}
+-- A service that moves neither FV nor the NMT state makes no EMCY due. Assumes nothing.
+use mathlib.Core.Path.{_≡_, sym}
+use mathlib.Core.Bool.{Bool, true, false, false≢true}
 use Rattle.model.specs.declared.Service.{Service}
 use Rattle.model.specs.declared.Service.the-variants.{Nothing, Tick, Sample, Nmt, Sync, Remote, Sdo, Lss}
 use Rattle.model.specs.declared.Core.{Core}
@@ -10,21 +9,21 @@ use Rattle.model.specs.Parts.{withCore, isOperational, isPreOperational}
 use Rattle.model.specs.Time.{emcyDue, synced, remoteAnswered, answersRemote}
 use Rattle.model.specs.Sdo.{serves}
 use Rattle.model.specs.Rules.{rules}
-use Rattle.model.specs.Step.{reports, reply, heard}
+use Rattle.model.specs.Step.{reports, heard}
 use Rattle.laws.proofs.Tests.{cond-case}
 use Rattle.laws.proofs.Count.{quiet-state}
-use Rattle.node.specs.Gives.{movesOf, keptIn}
+use Rattle.node.specs.Gives.{keptIn}
 
-pub no-reply : (v : Service) (s : State) → movesOf v ≡ true → reply v s ≡ []
-unfolding reply
-no-reply Nothing s m = refl
-no-reply Tick s m = absurd (false≢true m)
-no-reply (Sample fv) s m = refl
-no-reply (Nmt command to) s m = refl
-no-reply Sync s m = absurd (false≢true m)
-no-reply (Remote to) s m = absurd (false≢true m)
-no-reply (Sdo to r) s m = absurd (false≢true m)
-no-reply (Lss r) s m = absurd (false≢true m)
+-- FV and the NMT state are what EMCY is judged by
+abbrev pub movesOf : Service → Bool
+movesOf Nothing = false
+movesOf Tick = false
+movesOf (Sample fv) = true
+movesOf (Nmt command to) = true
+movesOf Sync = false
+movesOf (Remote to) = false
+movesOf (Sdo to r) = false
+movesOf (Lss r) = false
 
 abbrev Calm : State → Core → Type 0
 Calm s c = emcyDue (withCore s c) ≡ false

@@ -32,10 +32,6 @@ pub record Gives (o : Answered) (r : Answer) (ys zs : List ℕ) : Type 0 where
 
 -- ---- Their parts
 
--- the answer of a refused call
-abbrev pub turnedAway : ℕ → State → Answer
-turnedAway n s = record { number = n; count = 0; state = s }
-
 -- the answer of a call that has left the parameters
 abbrev pub left : Sent → State → Answer
 left r s = record { number = done; count = r .count; state = withCore s (r .core) }
@@ -43,17 +39,6 @@ left r s = record { number = done; count = r .count; state = withCore s (r .core
 -- what a service comes to
 abbrev pub asked : Service → State → List ℕ → Outcome
 asked v s st = served (changeOf v s (read st)) v s st
-
--- a service moves FV or the NMT state, by which EMCY is judged
-abbrev pub movesOf : Service → Bool
-movesOf Nothing = false
-movesOf Tick = false
-movesOf (Sample fv) = true
-movesOf (Nmt command to) = true
-movesOf Sync = false
-movesOf (Remote to) = false
-movesOf (Sdo to r) = false
-movesOf (Lss r) = false
 
 -- the state after a service that leaves the parameters, but for EMCY
 abbrev pub keptIn : Service → State → State
@@ -63,13 +48,6 @@ keptIn v s = withCore s (heard v s)
 pub record IsReply (v : Service) (r : Reply) (s : State) : Type 0 where
   pub other : reports v ≡ true
   pub frames : framesOf r ≡ reply v s
-
--- what `stayed` may count on: h is the core after the service
-pub record Staying (v : Service) (r : Reply) (h : Core) (s : State) : Type 0 where
-  pub heard : h ≡ heard v s
-  pub answer : IsReply v r s
-  pub kept : rules s ≡ true
-  pub after : Fit (keptIn v s)
 
 -- what `turned` may count on: h is the core after some service, which the change is made with
 pub record Turning (c : Change) (z : Sizes) (h : Core) (s : State) (st : List ℕ) : Type 0 where

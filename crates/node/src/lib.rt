@@ -1,5 +1,7 @@
 // The node: power-on, and one event. What users call.
 use image::Sizes;
+use lss::lss_reply;
+use lss::lss_served;
 use model::Address;
 use model::Answer;
 use model::Change;
@@ -7,6 +9,7 @@ use model::Core;
 use model::Fv;
 use model::Groups;
 use model::Identity;
+use model::LssRequest;
 use model::Reply;
 use model::Selection;
 use model::Sending;
@@ -14,34 +17,45 @@ use model::Service;
 use model::State;
 use model::Timers;
 use model::Upload;
+use nmt::commanded;
 use output::Sent;
 use output::judge;
+use output::remote;
+use output::replied;
+use output::report;
+use output::sample;
 use output::send;
+use output::sync;
 use output::tick;
 use rules::power_on_refusal;
 use rules::refusal;
 use service::service;
 use settings::table::defaults;
-use step::ask::ask;
-use step::ask::silent;
+use step::ask::Asked;
+use step::ask::ask_lss;
+use step::ask::ask_nmt;
+use step::ask::ask_sdo;
+use step::ask::sdo_heard;
 use step::change::alters;
 use step::change::booted;
 use step::change::core_after;
 use step::change::keep;
 use step::change::settled;
-use step::heard::heard;
 use store::load::address;
 use store::saved::saved_sizes;
-use wire::frames::emit;
+use time::frames::silent;
 ghost use mathlib.Core.Path.{_≡_};
 ghost use mathlib.Core.List.{_++_};
 ghost use Prim.Native.Nat.{_≤_};
 ghost use lib.ListN.{length};
 ghost use Rattle.model.specs.declared.Service.{Service};
+ghost use Rattle.model.specs.declared.Service.the-variants as Service;
 ghost use Rattle.model.specs.Frames.{framesOf};
 ghost use Rattle.model.specs.Step as Step;
-ghost use Rattle.output.specs.Sent.{Leaves, emcyOf, reportedNow};
-ghost use Rattle.node.specs.Gives.{Gives, turnedAway, left, movesOf, keptIn, IsReply, Staying, Turning, Turned};
+ghost use Rattle.lss.specs.Told.{partOf};
+ghost use Rattle.rules.specs.Fit.{Fit};
+ghost use Rattle.output.specs.Sent.{Leaves};
+ghost use Rattle.node.specs.Gives.{Gives, left, IsReply, Turning, Turned};
 
 // ---- A service that leaves the parameters
 
@@ -49,14 +63,9 @@ ghost use Rattle.node.specs.Gives.{Gives, turnedAway, left, movesOf, kep
 fn answered(sent: Sent, s: State) -> Answer
     ensures { λ r. ⌜ r ≡ left sent s ⌝ }
 {
-    let identity = s.identity;
-    let settings = s.settings;
+    let mut state = s;
     let core = sent.core;
-    let state = State {
-        identity,
-        settings,
-        core,
-    };
+    state.core = core;
     Answer {
         number: 0,
         count: sent.count,
@@ -64,39 +73,16 @@ fn answered(sent: Sent, s: State) -> Answer
     }
 }
 
-// Whether a service moves what EMCY is judged by: FV, or the NMT state.
-fn moves(v: Service) -> bool
-    ensures { λ r. ⌜ r ≡ movesOf v ⌝ }
+// An LSS request sends its answer, in Pre-operational alone.
+fn lss_sent(request: LssRequest, s: State, out: &mut [u8]) -> Sent
+    requires { ⌜ Fit s × ((partOf request ≤ 3) × (48 ≤ length (now out))) ⌝ }
+    ensures { λ r. ⌜ Leaves (Step.reply (Service.Lss request) s) (Step.heard (Service.Lss request) s) (now (out .entry)) (now (out .exit)) r ⌝ }
 {
-    match v {
-        Service::Sample(_) => true,
-        Service::Nmt { .. } => true,
-        _ => false,
+    if s.core.nmt == 127 {
+        return replied(lss_reply(request, s), lss_served(request, s), out);
     }
-}
-
-// The core h that such a service leaves, and what is sent: EMCY where it can be due (a sample and an NMT command have no reply), else the reply.
-fn stayed(v: Service, reply: Reply, h: Core, s: State, out: &mut [u8]) -> Sent
-    requires { ⌜ Staying v reply h s × (48 ≤ length (now out)) ⌝ }
-    ensures { λ r. ⌜ Leaves (framesOf reply ++ emcyOf (keptIn v s)) (reportedNow (keptIn v s) .core) (now (out .entry)) (now (out .exit)) r ⌝ }
-{
-    let mut core = h;
-    if moves(v) {
-        let application = s.settings.application;
-        let judged = judge(application, core);
-        let emcy = judged.emcy;
-        let n = emit(out, 0, emcy.send, emcy.frame);
-        core.reported = judged.reported;
-        return Sent {
-            count: n as u8,
-            core,
-        };
-    }
-    let n = emit(out, 0, reply.send, reply.frame);
-    Sent {
-        count: n as u8,
-        core,
-    }
+    let core = s.core;
+    Sent { count: 0, core }
 }
 
 // ---- A change that touches the parameters
@@ -139,18 +125,13 @@ fn turned(
 }
 
 // The same, and the store after it.
-fn altered(
-    c: Change,
-    z: Sizes,
-    reply: Reply,
-    h: Core,
-    s: State,
-    out: &mut [u8],
-    store: &mut [u8],
-) -> Answer
-    requires { ⌜ Turning c z h s (now store) × (48 ≤ length (now out)) ⌝ }
-    ensures { λ r. ⌜ ((v : Service) → h ≡ Step.heard v s → IsReply v reply s → Gives (Step.given (Step.served c v s (now (store .entry))) (now (out .entry))) r (now (out .exit)) (now (store .exit))) ⌝ }
+fn altered(asked: Asked, h: Core, s: State, out: &mut [u8], store: &mut [u8]) -> Answer
+    requires { ⌜ Turning (asked .change) (asked .sizes) h s (now store) × (48 ≤ length (now out)) ⌝ }
+    ensures { λ r. ⌜ ((v : Service) → h ≡ Step.heard v s → IsReply v (asked .reply) s → Gives (Step.given (Step.served (asked .change) v s (now (store .entry))) (now (out .entry))) r (now (out .exit)) (now (store .exit))) ⌝ }
 {
+    let c = asked.change;
+    let z = asked.sizes;
+    let reply = asked.reply;
     let answer = turned(c, z, reply, h, s, out, store);
     keep(c, s, store);
     answer
@@ -160,7 +141,7 @@ fn altered(
 
 // The answer of a refused call: no frame, and the state that it hands back.
 fn refused(number: u8, state: State) -> Answer
-    ensures { λ r. ⌜ r ≡ turnedAway number state ⌝ }
+    ensures { λ r. ⌜ r ≡ Step.turnedAway number state ⌝ }
 {
     Answer {
         number,
@@ -251,17 +232,31 @@ pub fn event(event: &[u8], state: State, out: &mut [u8], store: &mut [u8]) -> An
     match v {
         Service::Nothing => refused(0, state),
         Service::Tick => answered(tick(state, out), state),
-        _ => {
-            let asked = ask(v, state, store);
+        Service::Sample(fv) => answered(sample(fv, state, out), state),
+        Service::Sync => answered(sync(state, out), state),
+        Service::Remote { to } => answered(remote(to, state, out), state),
+        Service::Nmt { command, to } => {
+            let asked = ask_nmt(command, to, state, store);
             let c = asked.change;
-            let reply = asked.reply;
-            let h = heard(v, state);
             if alters(c) {
-                let z = asked.sizes;
-                return altered(c, z, reply, h, state, out, store);
+                return altered(asked, commanded(command, to, state), state, out, store);
+            }
+            answered(report(state, commanded(command, to, state), out), state)
+        }
+        Service::Sdo { to, request } => {
+            let asked = ask_sdo(to, request, state);
+            let h = sdo_heard(to, request, state);
+            let c = asked.change;
+            if alters(c) {
+                return altered(asked, h, state, out, store);
             }
             keep(c, state, store);
-            answered(stayed(v, reply, h, state, out), state)
+            let reply = asked.reply;
+            answered(replied(reply, h, out), state)
+        }
+        Service::Lss(request) => {
+            keep(ask_lss(request, state), state, store);
+            answered(lss_sent(request, state, out), state)
         }
     }
 }

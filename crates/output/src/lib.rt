@@ -1,7 +1,8 @@
-// What an event sends, laid into the output: the reply, the boot-up and EMCY, or the frames of a tick.
+// What an event sends, laid into the output: the reply, the boot-up and EMCY, or the frames of a tick; and the services that send and change no parameter.
 use model::Application;
 use model::Core;
 use model::Frame;
+use model::Fv;
 use model::Reply;
 use model::State;
 use reading::integer_pv;
@@ -13,6 +14,12 @@ use time::frames::reading_of;
 use time::frames::srdo_first;
 use time::frames::srdo_second;
 use time::frames::tpdo_frame;
+use time::frames::tpdo_reply;
+use time::sync::answers_remote;
+use time::sync::remote_answered;
+use time::sync::sampled;
+use time::sync::sync_sends;
+use time::sync::synced;
 use time::tick::Due;
 use time::tick::clocked;
 use time::tick::due_of;
@@ -25,6 +32,7 @@ ghost use Prim.Native.Nat.{_≤_};
 ghost use lib.ListN.{length};
 ghost use Rattle.model.specs.Frames as Frames;
 ghost use Rattle.model.specs.Frames.{framesOf};
+ghost use Rattle.model.specs.Parts.{withCore};
 ghost use Rattle.model.specs.Time as Time;
 ghost use Rattle.wire.specs.Laid.{Laid};
 ghost use Rattle.time.specs.Told.{dueOf};
@@ -72,6 +80,68 @@ pub fn send(reply: Reply, boot: Reply, emcy: Reply, out: &mut [u8]) -> u8
     n3 as u8
 }
 
+// ---- An event that leaves the parameters
+
+// What an event that leaves the parameters comes to: how many frames went out, and the core after it.
+pub struct Sent {
+    pub count: u8,
+    pub core: Core,
+}
+
+// Its reply goes out, and this core is left.
+pub fn replied(reply: Reply, core: Core, out: &mut [u8]) -> Sent
+    requires { ⌜ 48 ≤ length (now out) ⌝ }
+    ensures { λ r. ⌜ Leaves (framesOf reply) core (now (out .entry)) (now (out .exit)) r ⌝ }
+{
+    let n = emit(out, 0, reply.send, reply.frame);
+    Sent {
+        count: n as u8,
+        core,
+    }
+}
+
+// EMCY goes out where it is due with the core h, after which the reported flag is right.
+pub fn report(s: State, h: Core, out: &mut [u8]) -> Sent
+    requires { ⌜ (s .settings .application .digits ≤ 4) × ((h .active .id ≤ 127) × (48 ≤ length (now out))) ⌝ }
+    ensures { λ r. ⌜ Leaves (emcyOf (withCore s h)) (reportedNow (withCore s h) .core) (now (out .entry)) (now (out .exit)) r ⌝ }
+{
+    let application = s.settings.application;
+    let judged = judge(application, h);
+    let mut core = h;
+    core.reported = judged.reported;
+    let emcy = judged.emcy;
+    replied(emcy, core, out)
+}
+
+// A sample: the reading may be capped now, or no longer.
+pub fn sample(fv: Fv, s: State, out: &mut [u8]) -> Sent
+    requires { ⌜ Fit s × (48 ≤ length (now out)) ⌝ }
+    ensures { λ r. ⌜ (let t = withCore s (Time.sampled fv (s .core)) in Leaves (emcyOf t) (reportedNow t .core) (now (out .entry)) (now (out .exit)) r) ⌝ }
+{
+    let old = s.core;
+    report(s, sampled(fv, old), out)
+}
+
+// A SYNC: a TPDO where one is sent.
+pub fn sync(s: State, out: &mut [u8]) -> Sent
+    requires { ⌜ Fit s × (48 ≤ length (now out)) ⌝ }
+    ensures { λ r. ⌜ Leaves (Time.syncFrames s) (Time.synced s) (now (out .entry)) (now (out .exit)) r ⌝ }
+{
+    replied(tpdo_reply(sync_sends(s), s), synced(s), out)
+}
+
+// A remote frame on the TPDO of the node `to`.
+pub fn remote(to: u8, s: State, out: &mut [u8]) -> Sent
+    requires { ⌜ Fit s × (48 ≤ length (now out)) ⌝ }
+    ensures { λ r. ⌜ Leaves (Time.remoteFrames to s) (Time.remoteAnswered to s) (now (out .entry)) (now (out .exit)) r ⌝ }
+{
+    replied(
+        tpdo_reply(answers_remote(to, s), s),
+        remote_answered(to, s),
+        out,
+    )
+}
+
 // ---- A tick
 
 // Four frames go out in this order, each where it is sent.
@@ -115,12 +185,6 @@ fn send_due(s: State, due: Due, out: &mut [u8]) -> usize
         when(srdo, second),
         out,
     )
-}
-
-// What an event that leaves the parameters comes to: how many frames went out, and the core after it.
-pub struct Sent {
-    pub count: u8,
-    pub core: Core,
 }
 
 // The clock moves, and what is due goes out and starts anew. No EMCY can be due.

@@ -17,7 +17,6 @@ ghost use mathlib.Core.Path.{_≡_};
 ghost use Prim.Native.Nat.{_≤_};
 ghost use Rattle.model.specs.Rules as Rules;
 ghost use Rattle.model.specs.Step as Step;
-ghost use Rattle.rules.specs.Fit.{badFrameIn};
 
 // ---- The state rules. A state is whatever a caller built: its floats may be NaN, and its digits any
 
@@ -109,7 +108,8 @@ fn rule_upload(s: State) -> bool
     ((at == 0) & (toggle == 0)) | (((at == 7) & (toggle == 1)) | ((at == 14) & (toggle == 0)))
 }
 
-// All of them, the cheap ones first and the two signatures last: nothing is kept over the CRCs.
+// All of them, the cheap ones first and the two signatures last: nothing is kept over the CRCs. From `rule_start` on they are asked one by one,
+// for then the compiler reads a field where its rule wants it and not all of them before.
 // The ranges come before the reading, which is defined for digits in range alone.
 pub fn rules(s: State) -> bool
     ensures { λ r. ⌜ r ≡ Rules.rules s ⌝ }
@@ -117,7 +117,16 @@ pub fn rules(s: State) -> bool
     if !(rule_ids(s) & (rule_bits(s) & (rule_nmt(s) & rule_ranges(s)))) {
         return false;
     }
-    if !(rule_start(s) & (rule_lss(s) & (rule_sync(s) & rule_upload(s)))) {
+    if !rule_start(s) {
+        return false;
+    }
+    if !rule_lss(s) {
+        return false;
+    }
+    if !rule_sync(s) {
+        return false;
+    }
+    if !rule_upload(s) {
         return false;
     }
     if !rule_reported(s) {
@@ -130,7 +139,7 @@ pub fn rules(s: State) -> bool
 
 // A frame whose CAN-ID, flag or length is none.
 fn bad_frame(event: &[u8]) -> bool
-    ensures { λ r. ⌜ r ≡ badFrameIn (now (event .entry)) ⌝ }
+    ensures { λ r. ⌜ r ≡ Step.badFrameIn (now (event .entry)) ⌝ }
 {
     let id = can_id(event);
     let remote = flag(event);

@@ -9,11 +9,8 @@ use Rattle.model.specs.declared.Upload.{Upload}
 use Rattle.model.specs.declared.State.{State}
 use Rattle.model.specs.Rules.{stands, ruleUpload}
 use Rattle.model.specs.Sdo.{sendsSegment}
+use Rattle.laws.proofs.Tests.{or-case}
 use Rattle.sdo.specs.Open.{atSegment}
-
-or-case : {P : Type 0} (a b : Bool) → a || b ≡ true → (a ≡ true → P) → (b ≡ true → P) → P
-or-case true b h f g = f refl
-or-case false b h f g = g h
 
 -- what holds of a byte and a toggle holds of an upload that stands there
 standing : (P : ℕ → ℕ → Type 0) (at toggle : ℕ) (u : Upload) → P at toggle → stands at toggle u ≡ true → P (u .at) (u .toggle)

@@ -1,23 +1,28 @@
--- No SDO request and no LSS frame is a load: the store need not be read for them. Assumes nothing.
+-- No SDO request is a load: the store need not be read for it. Assumes nothing.
 use Prim.Native.Nat.{ℕ}
-use mathlib.Core.List.{List}
+use mathlib.Core.Path.{_≡_, ap, _∙_}
+use mathlib.Core.List.{List, []}
 use lib.Dec.{eqb}
 use Rattle.model.specs.declared.Entry.the-variants.{Fixed, Name, Shown, Setting, SaveWord, LoadWord}
 use Rattle.model.specs.declared.Found.{Found}
 use Rattle.model.specs.declared.Found.the-variants.{NoObject, NoSub, At}
+use Rattle.model.specs.declared.Service.{Service}
 use Rattle.model.specs.declared.Change.{Change}
+use Rattle.model.specs.declared.Change.the-variants.{Keep}
+use Rattle.model.specs.declared.Reply.{Reply}
 use Rattle.model.specs.declared.Checked.{Checked}
 use Rattle.model.specs.declared.SdoRequest.{SdoRequest}
 use Rattle.model.specs.declared.SdoRequest.the-variants as R
-use Rattle.model.specs.declared.LssRequest.{LssRequest}
-use Rattle.model.specs.declared.LssRequest.the-variants.{SwitchMode, Select, SetNodeId, SetBitIndex, StorePending, AskIdentity, AskNodeId, OtherLss}
 use Rattle.model.specs.declared.State.{State}
+use Rattle.model.specs.Store.{read}
+use Rattle.model.specs.Frames.{framesOf}
 use Rattle.model.specs.Dictionary.{find}
 use Rattle.model.specs.Sdo.{writeCode, asked, checkedWrite, changeIn, sdoChange}
-use Rattle.model.specs.Lss.{inConfiguration, lssChange}
+use Rattle.model.specs.Step.{changeOf, reply}
 use Rattle.laws.proofs.Tests.{cond-case}
 use Rattle.image.specs.declared.Sizes.{Sizes}
-use Rattle.step.specs.Asked.{SizesFor}
+use Rattle.step.specs.declared.ask.Asked.{Asked}
+use Rattle.step.specs.Asked.{SizesFor, IsAsked}
 
 write-unread : (f : Found) (d : ℕ) (st : List ℕ) (z : Sizes) → SizesFor (asked f d) st z
 write-unread NoObject d st z = tt
@@ -41,13 +46,15 @@ sdo-unread R.ClientAbort s st z = tt
 sdo-unread R.DownloadSegment s st z = tt
 sdo-unread (R.Unknown index sub) s st z = tt
 
-pub lss-unread : (q : LssRequest) (s : State) (st : List ℕ) (z : Sizes) → SizesFor (lssChange q s) st z
-unfolding lssChange
-lss-unread (Select n number) s st z = tt
-lss-unread (SwitchMode mode) s st z = tt
-lss-unread (SetNodeId id) s st z = tt
-lss-unread (SetBitIndex table bit) s st z = tt
-lss-unread StorePending s st z = cond-case (λ (c : Change). SizesFor c st z) (inConfiguration s) (λ _. tt) (λ _. tt)
-lss-unread (AskIdentity n) s st z = tt
-lss-unread AskNodeId s st z = tt
-lss-unread OtherLss s st z = tt
+-- ---- What is asked without it
+
+-- a change and a reply
+pub asked-unread : (v : Service) (s : State) (st : List ℕ) {c : Change} {q : Reply} (r : Asked) → (r .change ≡ c) × (r .reply ≡ q)
+    → c ≡ changeOf v s (read st) → framesOf q ≡ reply v s → ((z : Sizes) → SizesFor c st z) → IsAsked v s st r
+asked-unread v s st r e k f z =
+    record { change = e .0 ∙ k; frames = ap framesOf (e .1) ∙ f; sizes = rw (e .0) (z (r .sizes)) }
+
+-- neither
+pub asked-nothing : (v : Service) (s : State) (st : List ℕ) (r : Asked) → (r .change ≡ Keep) × (framesOf (r .reply) ≡ [])
+    → Keep ≡ changeOf v s (read st) → [] ≡ reply v s → IsAsked v s st r
+asked-nothing v s st r e k f = record { change = e .0 ∙ k; frames = e .1 ∙ f; sizes = rw (e .0) tt }

@@ -1,5 +1,4 @@
 // The state and the store after a change. Nothing else touches the saved parameters or the store.
-use super::ask::silent;
 use image::Sizes;
 use model::Change;
 use model::Core;
@@ -15,6 +14,7 @@ use store::load::address;
 use store::load::load;
 use store::write::readdress;
 use store::write::save;
+use time::frames::silent;
 use time::restarts::restart;
 use time::restarts::timer_of;
 ghost use mathlib.Core.Path.{_≡_};

@@ -16,13 +16,13 @@ use Rattle.model.specs.declared.Settings.{Settings}
 use Rattle.model.specs.declared.Address.{Address}
 use Rattle.model.specs.Bytes.{le, part, byteAt}
 use Rattle.model.specs.Settings.{rows, bytesOf, inForce, altered, made}
-use Rattle.model.specs.Store.{recordOf, Saved, read, savedN, orElse, defaultFor, factory, groupFrom, loaded, addressFrom}
+use Rattle.model.specs.Store.{recordOf, Saved, read, savedN, orElse, defaultFor, factory, groupOf, groupFrom, loaded, addressFrom}
 use Rattle.model.specs.Changes.{effect, applied}
 use Rattle.wire.specs.Put.{put}
 use Rattle.wire.proofs.Puts.{starts-none, starts-more, starts-all}
 use Rattle.records.specs.Decoded.{fromRecord}
 use Rattle.image.specs.declared.Sizes.{Sizes}
-use Rattle.store.specs.Saved.{Kept, groupOf, forId, cobsOf}
+use Rattle.store.specs.Saved.{Kept, forId, cobsOf}
 use Rattle.store.proofs.Parts.{n-part, absent, there}
 
 -- ---- The defaults, as settings and back

@@ -79,10 +79,10 @@ module _ (image : List ℕ) (s : Sizes) (own : Bool) (e : s ≡ sizesIn image)
 
 -- so what is saved is of those sizes, or nothing
 pub kept : (image : List ℕ) (s : Sizes) → Sized image s → isGood image ≡ true → Kept image s
-kept image s z h = record { told = rw h (z .told); n-most = z .n-most; c-most = z .c-most; a-most = z .a-most }
+kept image s z h = record { told = rw h (z .told); most = z .most }
 
 pub nothing-kept : (image : List ℕ) → isGood image ≡ false → Kept image (record { n = 0; c = 0; a = 0 })
-nothing-kept image h = record { told = rw h; n-most = omega arith; c-most = omega arith; a-most = omega arith }
+nothing-kept image h = record { told = rw h; most = record { n = omega arith; c = omega arith; a = omega arith } }
 
 -- ---- A part, or else another run of bytes
 

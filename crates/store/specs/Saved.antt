@@ -1,5 +1,5 @@
 -- What is saved, by the sizes of its records; a load from a block, and a write. Assumes nothing.
-use Prim.Native.Nat.{ℕ, _+_, _≤_}
+use Prim.Native.Nat.{ℕ, _+_}
 use mathlib.Core.Path.{_≡_}
 use mathlib.Core.Bool.{Bool, true, false, cond, _&&_, not}
 use mathlib.Core.List.{List}
@@ -9,27 +9,21 @@ use Rattle.model.specs.declared.Group.{Group}
 use Rattle.model.specs.declared.Group.the-variants.{C, A}
 use Rattle.model.specs.Bytes.{part, byteAt}
 use Rattle.model.specs.Settings.{row, sameGroup, Now, stays, becomes}
-use Rattle.model.specs.Store.{sizeOfRecord, field, isGood, Saved, read, savedN, saved, orElse, defaultFor, factoryPlace, followsId, build}
+use Rattle.model.specs.Store.{sizeOfRecord, field, isGood, Saved, read, savedN, saved, orElse, defaultFor, groupOf, factoryPlace, followsId, build}
 use Rattle.image.specs.declared.Sizes.{Sizes}
-use Rattle.image.specs.Sizes.{sizesIn}
+use Rattle.image.specs.Sizes.{sizesIn, Most}
 
 -- the sizes of what is saved: none where the image is not good
 abbrev pub sizesIf : Bool → Sizes → Sizes
 sizesIf true s = s
 sizesIf false s = record { n = 0; c = 0; a = 0 }
 
--- s are the sizes of what is saved in an image, each at most its record's
+-- s are the sizes of what is saved in an image
 pub record Kept (image : List ℕ) (s : Sizes) : Type 0 where
   pub told : s ≡ sizesIf (isGood image) (sizesIn image)
-  pub n-most : s .n ≤ 2
-  pub c-most : s .c ≤ 21
-  pub a-most : s .a ≤ 17
+  pub most : Most s
 
--- a group at a load, where the factory block is this one
-abbrev pub groupOf : Group → List ℕ → Saved → List ℕ
-groupOf g block sv = orElse (saved g sv) (part (factoryPlace g) (sizeOfRecord g) block)
-
--- that part, by the sizes: of the store or, where it is empty there, of the factory block
+-- a group at a load, by the sizes: of the store or, where it is empty there, of the factory block
 abbrev pub partFor : Group → List ℕ → List ℕ → Sizes → List ℕ
 partFor C store block s = orElse (part (s .n) (s .c) store) (part (factoryPlace C) (sizeOfRecord C) block)
 partFor A store block s = orElse (part (s .n + s .c) (s .a) store) (part (factoryPlace A) (sizeOfRecord A) block)

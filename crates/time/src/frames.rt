@@ -1,6 +1,7 @@
 // The present reading, and the frames that go out by themselves.
 use model::Frame;
 use model::Integer;
+use model::Reply;
 use model::State;
 use reading::bits_of;
 use reading::integer_pv;
@@ -11,8 +12,9 @@ ghost use mathlib.Core.List.{[], _∷_, _++_};
 ghost use Prim.Native.Nat.{_+_, _-_, _≤_};
 ghost use lib.Dec.{eqb};
 ghost use Rattle.model.specs.Bytes.{le};
-ghost use Rattle.model.specs.Frames.{frame, full, heartbeats, tpdos, emcys};
+ghost use Rattle.model.specs.Frames.{frame, full, when, framesOf, heartbeats, tpdos, emcys};
 ghost use Rattle.model.specs.Parts.{Stopped};
+ghost use Rattle.model.specs.Time as Time;
 ghost use Rattle.model.specs.Time.{differ};
 ghost use Rattle.time.specs.Told.{readingOf};
 
@@ -87,6 +89,38 @@ pub fn tpdo_frame(id: u8, integer: u32) -> Frame
     ensures { λ r. ⌜ r ≡ frame (tpdos + id) (le 4 integer) ⌝ }
 {
     four_bytes(0x180 + id as u16, integer)
+}
+
+// No frame.
+pub fn silent() -> Reply
+    ensures { λ r. ⌜ framesOf r ≡ [] ⌝ }
+{
+    let frame = Frame {
+        id: 0,
+        len: 0,
+        d0: 0,
+        d1: 0,
+        d2: 0,
+        d3: 0,
+        d4: 0,
+        d5: 0,
+        d6: 0,
+        d7: 0,
+    };
+    Reply { send: false, frame }
+}
+
+// A TPDO where it is sent. The reading is made only then.
+pub fn tpdo_reply(send: bool, s: State) -> Reply
+    requires { ⌜ (s .settings .application .digits ≤ 4) × (s .core .active .id ≤ 127) ⌝ }
+    ensures { λ r. ⌜ framesOf r ≡ when send (Time.tpdoFrame s) ⌝ }
+{
+    if send {
+        let reading = reading_of(s);
+        let frame = tpdo_frame(s.core.active.id, reading.integer.bits);
+        return Reply { send, frame };
+    }
+    silent()
 }
 
 // SRDO: the bits of PV on the first COB-ID.

@@ -16,9 +16,7 @@ returns : tie.Need-returns
 returns c = record {
   told =
       rw (c .size-at3 .ensures .0, c .before .size-at2 .ensures .0, c .before .before .size-at .ensures .0);
-  n-most = search needs;
-  c-most = search needs;
-  a-most = search needs;
+  most = record { n = search needs; c = search needs; a = search needs };
 }
 
 pub sizes-in-spec : {M : Type 1} → statement M

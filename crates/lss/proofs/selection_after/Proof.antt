@@ -8,13 +8,10 @@ use borrow.Author.Tests.{eq-eqb, ne-eqb, eqb-true}
 use lib.Dec.{eqb}
 use Rattle.model.specs.declared.State.{State}
 use Rattle.model.specs.Lss as Lss
+use Rattle.laws.proofs.Tests.{or-case}
 use borrow.Author.Needs.{needs}
 use Rattle.lss.proofs.selection_after.Statement.{statement}
 use Rattle.lss.proofs.selection_after.Tie as tie
-
-or-case : {P : Type 0} (a b : Bool) → a || b ≡ true → (a ≡ true → P) → (b ≡ true → P) → P
-or-case true b h f g = f refl
-or-case false b h f g = g h
 
 part-small : (n number : ℕ) (s : State) → Lss.matches n number s ≡ true → s .core .lss .progress ≤ 3 → n ≤ 3
 unfolding Lss.matches

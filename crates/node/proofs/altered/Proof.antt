@@ -20,15 +20,9 @@ same-length-2 c = search needs
 returns : tie.Need-returns
 returns c =
     let c6 = c .before .before .before .before .before .before in
-    let a = c6 .before .before .before .before .before .args in
-    λ v heard answer. gives-served (a .c) v (a .s) (a .store .now) (answer .other) (answer .frames) refl refl (c .before .before .keep .ensures) (c6 .turned .ensures v heard)
+    let a = c6 .before .before .before .before .before .before .before .args in
+    λ v heard answer.
+    gives-served (a .asked .change) v (a .s) (a .store .now) (answer .other) (answer .frames) refl refl (c .before .before .keep .ensures) (c6 .turned .ensures v heard)
 
 pub altered-spec : {M : Type 1} → statement M
-altered-spec =
-    tie.close
-    (tie.spec
-    turned-requires
-    keep-requires
-    same-length
-    same-length-2
-    returns)
+altered-spec = tie.close (tie.spec turned-requires keep-requires same-length same-length-2 returns)

@@ -1,6 +1,7 @@
 -- `ask::ask_sdo` meets its contract: by whether the request is served. Assumes nothing.
+use Rattle.model.specs.declared.Service.the-variants.{Sdo}
 use Rattle.model.specs.Step as Step
-use Rattle.step.proofs.Unread.{sdo-unread}
+use Rattle.step.proofs.Unread.{sdo-unread, asked-unread, asked-nothing}
 use borrow.Author.Needs.{needs}
 use Rattle.step.proofs.ask.ask_sdo.Statement.{statement}
 use Rattle.step.proofs.ask.ask_sdo.Tie as tie
@@ -14,21 +15,21 @@ unread-requires c κs = search needs
 returns : tie.Need-returns
 unfolding Step.changeOf Step.reply
 returns c =
+    let c3 = c .before .before .before in
+    let a = c3 .before .before .before .args in
     let served = c .before .before .serve .ensures in
-    let yes = c .before .before .before .if1 .taken in
-    λ st. record { change = rw yes (served .change); frames = rw yes (served .frames); sizes = rw (served .change) (sdo-unread _ _ st _) }
+    λ st. asked-unread (Sdo (a .to) (a .request)) (a .s) st _ (c .unread .ensures) (rw (c3 .if1 .taken) (served .change)) (rw (c3 .if1 .taken) (served .frames))
+    (λ z. rw (served .change) (sdo-unread (a .request) (a .s) st z))
 
-silent-requires : tie.Need-silent-requires
-silent-requires c κs = search needs
-
-unread-requires-2 : tie.Need-unread-requires-2
-unread-requires-2 c κs = search needs
+no-matter-requires : tie.Need-no-matter-requires
+no-matter-requires c κs = search needs
 
 returns-2 : tie.Need-returns-2
 unfolding Step.changeOf Step.reply
 returns-2 c =
-    let no = c .before .before .if1 .left in
-    λ st. record { change = rw no; frames = rw no (c .before .silent .ensures); sizes = tt }
+    let a = c .before .before .before .before .args in
+    let no = c .before .if1 .left in
+    λ st. asked-nothing (Sdo (a .to) (a .request)) (a .s) st _ (c .no-matter .ensures) (rw no) (rw no)
 
 pub ask-sdo-spec : {M : Type 1} → statement M
-ask-sdo-spec = tie.close (tie.spec serve-requires unread-requires returns silent-requires unread-requires-2 returns-2)
+ask-sdo-spec = tie.close (tie.spec serve-requires unread-requires returns no-matter-requires returns-2)

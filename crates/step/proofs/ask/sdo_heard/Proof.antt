@@ -1,8 +1,8 @@
--- `heard::sdo_heard` meets its contract: by whether the request is served. Assumes nothing.
+-- `ask::sdo_heard` meets its contract: by whether the request is served. Assumes nothing.
 use Rattle.model.specs.Step as Step
 use borrow.Author.Needs.{needs}
-use Rattle.step.proofs.heard.sdo_heard.Statement.{statement}
-use Rattle.step.proofs.heard.sdo_heard.Tie as tie
+use Rattle.step.proofs.ask.sdo_heard.Statement.{statement}
+use Rattle.step.proofs.ask.sdo_heard.Tie as tie
 
 upload-after-requires : tie.Need-upload-after-requires
 upload-after-requires c κs = search needs

@@ -1,8 +1,8 @@
--- `ask::tpdo_reply` meets its contract: the frame of the reading, or none. Assumes nothing.
+-- `frames::tpdo_reply` meets its contract: the frame of the reading, or none. Assumes nothing.
 use Rattle.model.specs.Time as Time
 use borrow.Author.Needs.{needs}
-use Rattle.step.proofs.ask.tpdo_reply.Statement.{statement}
-use Rattle.step.proofs.ask.tpdo_reply.Tie as tie
+use Rattle.time.proofs.frames.tpdo_reply.Statement.{statement}
+use Rattle.time.proofs.frames.tpdo_reply.Tie as tie
 
 reading-of-requires : tie.Need-reading-of-requires
 reading-of-requires c κs = search needs
