@@ -218,6 +218,12 @@ event-done e s out st n {r} {ys} {zs} a z k g =
     subst (λ (m : ℕ). Gives (cond (eqb m 0) (given (step e s st) out) (refused m s out st)) r ys zs) (sym z ∙ a)
     (subst (λ (w : Service). Gives (given (asked w s st) out) r ys zs) k g)
 
+-- the same by the change that its code has found
+pub event-changed : (e : List ℕ) (s : State) (out st : List ℕ) (n : ℕ) {v : Service} {c : Change} {r : Answer} {ys zs : List ℕ}
+    → n ≡ refusal e s (length out) (length st) → n ≡ 0 → v ≡ service e → c ≡ changeOf v s (read st)
+    → Gives (given (served c v s st) out) r ys zs → Gives (eventAnswer e s out st) r ys zs
+event-changed e s out st n {v} a z k told g = event-done e s out st n a z k (of-change v s st out told g)
+
 pub event-refused : (e : List ℕ) (s : State) (out st : List ℕ) (n : ℕ) → n ≡ refusal e s (length out) (length st) → (n ≡ 0 → ⊥)
     → Gives (eventAnswer e s out st) (turnedAway n s) out st
 unfolding eventAnswer

@@ -4,7 +4,7 @@ use Rattle.model.specs.Store.{read}
 use Rattle.model.specs.Step as Step
 use Rattle.rules.proofs.Fits.{fit}
 use Rattle.step.proofs.Altered.{lss-unaltered}
-use Rattle.node.proofs.Outcomes.{admitted, gives-nothing, gives-tick, gives-sample, gives-sync, gives-remote, gives-nmt, gives-calm, of-change, event-done, event-refused, part-ok, id-stayed, turning}
+use Rattle.node.proofs.Outcomes.{admitted, gives-nothing, gives-tick, gives-sample, gives-sync, gives-remote, gives-nmt, gives-calm, event-done, event-changed, event-refused, part-ok, id-stayed, turning}
 use borrow.Author.Needs.{needs}
 use Rattle.node.proofs.event.Statement.{statement}
 use Rattle.node.proofs.event.Tie as tie
@@ -144,8 +144,8 @@ returns-2 c =
     let c21 = c17 .before .before .before .before in
     let a = c21 .args in
     let asked = c10 .ask-nmt .ensures in
-    event-done (a .event .now) (a .state) (a .out .now) (a .store .now) _ (c17 .refusal .ensures) (c16 .if1 .left) (sym (c13 .v3 .given .1) ∙ c15 .service .ensures)
-    (of-change _ (a .state) (a .store .now) _ (asked .change) (c4 .altered .ensures _ (c7 .commanded .ensures) (record { other = refl; frames = asked .frames })))
+    event-changed (a .event .now) (a .state) (a .out .now) (a .store .now) _ (c17 .refusal .ensures) (c16 .if1 .left) (sym (c13 .v3 .given .1) ∙ c15 .service .ensures) (asked .change)
+    (c4 .altered .ensures _ (c7 .commanded .ensures) (record { other = refl; frames = asked .frames }))
 
 commanded-requires-2 : tie.Need-commanded-requires-2
 commanded-requires-2 c κs = search needs
@@ -227,8 +227,8 @@ returns-3 c =
     let c20 = c16 .before .before .before .before in
     let a = c20 .args in
     let asked = c10 .ask-sdo .ensures (a .store .now) in
-    event-done (a .event .now) (a .state) (a .out .now) (a .store .now) _ (c16 .refusal .ensures) (c15 .if1 .left) (sym (c12 .v4 .given .1) ∙ c14 .service .ensures)
-    (of-change _ (a .state) (a .store .now) _ (asked .change) (c4 .altered2 .ensures _ (c9 .sdo-heard .ensures) (record { other = refl; frames = asked .frames })))
+    event-changed (a .event .now) (a .state) (a .out .now) (a .store .now) _ (c16 .refusal .ensures) (c15 .if1 .left) (sym (c12 .v4 .given .1) ∙ c14 .service .ensures) (asked .change)
+    (c4 .altered2 .ensures _ (c9 .sdo-heard .ensures) (record { other = refl; frames = asked .frames }))
 
 keep-requires : tie.Need-keep-requires
 keep-requires c κs =
@@ -381,8 +381,8 @@ returns-9 c =
     let told = c8 .ask-nmt .ensures .change in
     let still = sym (c7 .alters .ensures) ∙ c6 .if2 .left in
     rw (c .answered5 .ensures)
-    (event-done (a .event .now) (a .state) (a .out .now) (a .store .now) _ (c15 .refusal .ensures) (c14 .if1 .left) (sym (c11 .v3 .given .1) ∙ c13 .service .ensures)
-    (of-change _ (a .state) (a .store .now) _ told (gives-nmt _ _ (a .state) _ told still (c5 .commanded2 .ensures) (c3 .report .ensures))))
+    (event-changed (a .event .now) (a .state) (a .out .now) (a .store .now) _ (c15 .refusal .ensures) (c14 .if1 .left) (sym (c11 .v3 .given .1) ∙ c13 .service .ensures) told
+    (gives-nmt _ _ (a .state) _ told still (c5 .commanded2 .ensures) (c3 .report .ensures)))
 
 same-length-11 : tie.Need-same-length-11
 same-length-11 c = search needs
@@ -408,9 +408,8 @@ returns-10 c =
     let asked = c13 .ask-sdo .ensures (a .store .now) in
     let still = sym (c11 .alters2 .ensures) ∙ c10 .if3 .left in
     rw (c .answered6 .ensures)
-    (event-done (a .event .now) (a .state) (a .out .now) (a .store .now) _ (c19 .refusal .ensures) (c18 .if1 .left) (sym (c15 .v4 .given .1) ∙ c17 .service .ensures)
-    (of-change _ (a .state) (a .store .now) _ (asked .change)
-    (gives-calm _ _ (a .state) _ still refl refl (ok .kept) (asked .frames) (c12 .sdo-heard .ensures) (c8 .keep .ensures) (c3 .replied .ensures))))
+    (event-changed (a .event .now) (a .state) (a .out .now) (a .store .now) _ (c19 .refusal .ensures) (c18 .if1 .left) (sym (c15 .v4 .given .1) ∙ c17 .service .ensures) (asked .change)
+    (gives-calm _ _ (a .state) _ still refl refl (ok .kept) (asked .frames) (c12 .sdo-heard .ensures) (c8 .keep .ensures) (c3 .replied .ensures)))
 
 same-length-13 : tie.Need-same-length-13
 same-length-13 c = search needs
@@ -432,9 +431,8 @@ returns-11 c =
     let ok = admitted _ (a .state) _ _ (c15 .refusal .ensures) (c14 .if1 .left) in
     let told = c9 .ask-lss .ensures (read (a .store .now)) in
     rw (c .answered7 .ensures)
-    (event-done (a .event .now) (a .state) (a .out .now) (a .store .now) _ (c15 .refusal .ensures) (c14 .if1 .left) (sym (c11 .v5 .given .1) ∙ c13 .service .ensures)
-    (of-change _ (a .state) (a .store .now) _ told
-    (gives-calm _ _ (a .state) _ (rw told (lss-unaltered _ (a .state) _)) refl refl (ok .kept) refl refl (c7 .keep2 .ensures) (c3 .lss-sent .ensures))))
+    (event-changed (a .event .now) (a .state) (a .out .now) (a .store .now) _ (c15 .refusal .ensures) (c14 .if1 .left) (sym (c11 .v5 .given .1) ∙ c13 .service .ensures) told
+    (gives-calm _ _ (a .state) _ (rw told (lss-unaltered _ (a .state) _)) refl refl (ok .kept) refl refl (c7 .keep2 .ensures) (c3 .lss-sent .ensures)))
 
 pub event-spec : {M : Type 1} → statement M
 event-spec =
