@@ -6,7 +6,6 @@ use mathlib.Core.List.{List, [], _∷_, _++_}
 use Prim.Native.Nat.{ℕ, _+_, _%_, _≤_}
 use native.Mathlib.Omega.{arith}
 use lib.Dec.{eqb}
-use lib.ListN.{length}
 use Rattle.model.specs.declared.Parameter.the-variants.{P1301s5, P1301s6}
 use Rattle.model.specs.declared.Group.the-variants.{C}
 use Rattle.model.specs.declared.Groups.the-variants.{Both}
@@ -28,7 +27,7 @@ use Rattle.model.specs.declared.Verdict.the-variants.{Inside, Outside}
 use Rattle.model.specs.declared.Frame.{Frame}
 use Rattle.model.specs.declared.Identity.{Identity}
 use Rattle.model.specs.declared.State.{State}
-use Rattle.model.specs.Frames.{when, sdoReplies, heartbeats, tpdos, emcys}
+use Rattle.model.specs.Frames.{when, sdoReplies, tpdos}
 use Rattle.model.specs.Bytes.{within}
 use Rattle.model.specs.Settings.{inForce, rows, inRanges, judge, isInside, oddCob, evenCob}
 use Rattle.model.specs.Validity.{honest, sound}
@@ -41,7 +40,7 @@ use Rattle.model.specs.Sdo.{readFrom, uploaded, sendsSegment, segmentReply, che
 use Rattle.model.specs.Lss.{answered, lssReply}
 use Rattle.model.specs.Rules.{rules}
 use Rattle.model.specs.Step.{changeOf, reply, booted, changed, reports, served, step, unborn, powerOn}
-use Rattle.laws.proofs.Tests.{cond-case, and-l, and-r, within-is}
+use Rattle.laws.proofs.Tests.{cond-case, and-l, within-is}
 use Rattle.laws.proofs.Parameters.{in-rows, range-at}
 use Rattle.laws.proofs.Loading.{address-ok}
 use Rattle.laws.proofs.Allowed.{Allowed, id-ok, sound-ok, change-allowed}

@@ -17,12 +17,6 @@ use Rattle.model.specs.declared.Group.the-variants.{C, A}
 use Rattle.model.specs.declared.Groups.the-variants.{Both}
 use Rattle.model.specs.declared.Change.{Change}
 use Rattle.model.specs.declared.Change.the-variants.{Keep, Write, Save, TakeOut, Load, SavePending}
-use Rattle.model.specs.declared.Found.{Found}
-use Rattle.model.specs.declared.Found.the-variants.{NoObject, NoSub, At}
-use Rattle.model.specs.declared.Content.{Content}
-use Rattle.model.specs.declared.Content.the-variants.{Text, Plain}
-use Rattle.model.specs.declared.Checked.{Checked}
-use Rattle.model.specs.declared.Checked.the-variants.{Refused, Accepted}
 use Rattle.model.specs.declared.Service.{Service}
 use Rattle.model.specs.declared.Service.the-variants.{Nothing, Tick, Sample, Nmt, Sync, Remote, Sdo, Lss}
 use Rattle.model.specs.declared.SdoRequest.{SdoRequest}
@@ -41,12 +35,12 @@ use Rattle.model.specs.Settings.{inForce, rows, inRanges}
 use Rattle.model.specs.Validity.{signs, valid, marked, honest, sound}
 use Rattle.model.specs.Store.{read, addressFrom}
 use Rattle.model.specs.Parts.{idOf, isOperational, isPreOperational, capped}
-use Rattle.model.specs.Dictionary.{find, contentOf}
+use Rattle.model.specs.Dictionary.{find}
 use Rattle.model.specs.Service.{service}
 use Rattle.model.specs.Changes.{effect, applied}
 use Rattle.model.specs.Time.{communication, sendsAt, syncSends, answersRemote, clocked, heartbeatDue, tpdoDue, srdoDue, heartbeatFrame, tpdoFrame, srdoFirst, srdoSecond, ticked, tickFrames, syncFrames, remoteFrames, emcyDue, emcyFrame}
 use Rattle.model.specs.Nmt.{startObeyed}
-use Rattle.model.specs.Sdo.{readFrom, uploaded, sendsSegment, segmentReply, checkedWrite, writeReply, sdoReply, serves}
+use Rattle.model.specs.Sdo.{checkedWrite, sdoReply, serves}
 use Rattle.model.specs.Lss.{answered, lssReply}
 use Rattle.model.specs.Rules.{rules}
 use Rattle.model.specs.Step.{done, refusal, powerOnRefusal, changeOf, reply, booted, heard, coreAfter, changed, reports, served, step, unborn, powerOn}

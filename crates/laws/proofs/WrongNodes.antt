@@ -3,7 +3,7 @@
 use Prim.Native.Nat.{ℕ}
 use mathlib.Core.Path.{_≡_, refl}
 use mathlib.Core.Bool.{Bool, true, false, cond}
-use mathlib.Core.List.{List, [], _∷_, _++_}
+use mathlib.Core.List.{List, [], _∷_}
 use lib.Dec.{eqb}
 use lib.ListN.{length}
 use Rattle.model.specs.declared.Value.{Value}
@@ -17,7 +17,7 @@ use Rattle.model.specs.declared.Frame.{Frame}
 use Rattle.model.specs.declared.Settings.{Settings}
 use Rattle.model.specs.declared.State.{State}
 use Rattle.model.specs.Frames.{kindOfEvent}
-use Rattle.model.specs.Settings.{same, inForce, Now, stays, becomes, altered}
+use Rattle.model.specs.Settings.{same, inForce, stays, becomes, altered}
 use Rattle.model.specs.Validity.{signs}
 use Rattle.model.specs.Store.{read, isGood}
 use Rattle.model.specs.Parts.{state}

@@ -1,15 +1,14 @@
 -- Document 01, "Marked cases": the ten of them as one table, each by computation (ID 1 and the defaults). Assumes nothing.
 use Prim.Native.Nat.{ℕ}
 use mathlib.Core.Path.{_≡_, refl}
-use mathlib.Core.Bool.{Bool, true, false}
+use mathlib.Core.Bool.{true, false}
 use mathlib.Core.List.{List, [], _∷_}
 use lib.Ieee.{binary32, ofBits}
-use Rattle.model.specs.declared.Pv.{Pv}
 use Rattle.model.specs.declared.Integer.{Integer}
 use Rattle.model.specs.Signature.{crcOf}
 use Rattle.model.specs.Reading.{integerOf}
 use Rattle.model.specs.Settings.{firstCob, secondCob}
-use Rattle.model.specs.Store.{Saved, nothing, read}
+use Rattle.model.specs.Store.{nothing, read}
 use Rattle.model.specs.Parts.{pvBits, integerPv}
 use Rattle.model.specs.Step.{zeroStore}
 use Rattle.model.proofs.Everything.{everything}

@@ -2,14 +2,11 @@
 -- CAN-ID and data. Assumes nothing.
 use Prim.Native.Nat.{ℕ}
 use mathlib.Core.Path.{_≡_, refl}
-use mathlib.Core.Bool.{true, false}
 use mathlib.Core.List.{List, [], _∷_, _++_}
 use lib.ListN.{replicate}
-use Rattle.model.specs.declared.Value.{Value}
 use Rattle.model.specs.declared.Value.the-variants.{U16}
 use Rattle.model.specs.declared.Parameter.the-variants.{P1017}
 use Rattle.model.specs.declared.Groups.the-variants.{Both, OnlyC}
-use Rattle.model.specs.declared.Change.{Change}
 use Rattle.model.specs.declared.Change.the-variants.{Keep, Write, Save, Load}
 use Rattle.model.specs.declared.State.{State}
 use Rattle.model.specs.Parts.{withCore, withNmt, withTimers, timers}

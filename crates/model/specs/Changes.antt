@@ -1,9 +1,8 @@
 -- What an event does to the saved parameters and to the store. A change is the only way to either; what it does to a parameter is one formula
 -- over the table. Document 01: "Dictionary" (1010h, 1011h), "Validity" (the forced changes), "NMT" (loads), "LSS" (17h), "The store". Assumes nothing.
 use Prim.Native.Nat.{ℕ}
-use mathlib.Core.Bool.{Bool, cond, _&&_}
+use mathlib.Core.Bool.{cond, _&&_}
 use mathlib.Core.List.{List, []}
-use Rattle.model.specs.declared.Value.{Value}
 use Rattle.model.specs.declared.Value.the-variants.{U8}
 use Rattle.model.specs.declared.Parameter.{Parameter}
 use Rattle.model.specs.declared.Group.{Group}

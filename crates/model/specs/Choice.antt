@@ -1,5 +1,5 @@
 -- Choices: of several tests the first that holds decides. Document 01 words its refusals and its write checks so. Assumes nothing.
-use mathlib.Core.Bool.{Bool, true, false, cond}
+use mathlib.Core.Bool.{Bool, cond}
 use mathlib.Core.List.{List, [], _∷_}
 
 infix 20 _⇒_

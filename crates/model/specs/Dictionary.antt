@@ -1,6 +1,6 @@
 -- Document 01, "Dictionary": every object and sub, and what each reads as. Assumes nothing.
 use Prim.Native.Nat.{ℕ, _+_}
-use mathlib.Core.Bool.{Bool, true, false, cond}
+use mathlib.Core.Bool.{cond}
 use mathlib.Core.List.{List, [], _∷_}
 use lib.Dec.{eqb}
 use mir.Val.{toZ}

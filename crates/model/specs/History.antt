@@ -1,7 +1,7 @@
 -- The user's third demand: what the bus log alone says of every saved parameter, and of what the store holds for it. Nothing here names the
 -- node's state. First the deed of each line, then the look back over the deeds, newest first. Assumes nothing.
 use Prim.Native.Nat.{ℕ, _+_, _-_}
-use mathlib.Core.Bool.{Bool, true, false, cond, not, _&&_}
+use mathlib.Core.Bool.{Bool, false, cond, not, _&&_}
 use mathlib.Core.List.{List, [], _∷_}
 use lib.Dec.{eqb}
 use Rattle.model.specs.declared.Value.{Value}

@@ -1,17 +1,15 @@
 -- Document 01, "NMT, time, SYNC", its first paragraph: NMT commands and resets. Assumes nothing.
 use Prim.Native.Nat.{ℕ, _+_}
-use mathlib.Core.Bool.{Bool, true, false, cond, not, _&&_, _||_}
-use mathlib.Core.List.{List, [], _∷_}
+use mathlib.Core.Bool.{Bool, false, cond, not, _&&_, _||_}
+use mathlib.Core.List.{[], _∷_}
 use lib.Dec.{eqb}
 use Rattle.model.specs.declared.Group.the-variants.{C, A}
 use Rattle.model.specs.declared.Groups.{Groups}
 use Rattle.model.specs.declared.Groups.the-variants.{Both, OnlyC, OnlyA}
 use Rattle.model.specs.declared.Change.{Change}
 use Rattle.model.specs.declared.Change.the-variants.{Keep, Load}
-use Rattle.model.specs.declared.Address.{Address}
 use Rattle.model.specs.declared.Settings.{Settings}
 use Rattle.model.specs.declared.Frame.{Frame}
-use Rattle.model.specs.declared.Fv.{Fv}
 use Rattle.model.specs.declared.Selection.{Selection}
 use Rattle.model.specs.declared.Core.{Core}
 use Rattle.model.specs.declared.State.{State}

@@ -1,6 +1,6 @@
 -- Document 01, "Events, frames and the answer": the state rules, and no others. Assumes nothing.
 use Prim.Native.Nat.{ℕ}
-use mathlib.Core.Bool.{Bool, true, false, cond, not, _&&_, _||_}
+use mathlib.Core.Bool.{Bool, cond, not, _&&_, _||_}
 use lib.Dec.{eqb, leb, ltb}
 use Rattle.model.specs.declared.Group.the-variants.{C, A}
 use Rattle.model.specs.declared.Upload.{Upload}

@@ -5,7 +5,7 @@ use mathlib.Core.List.{List, [], _∷_, _++_}
 use lib.Dec.{eqb, leb, ltb}
 use lib.Ieee.{Float, binary32, ofBits}
 use Rattle.model.specs.declared.Value.{Value}
-use Rattle.model.specs.declared.Value.the-variants.{U8, U16, U32, Integer32, Real32}
+use Rattle.model.specs.declared.Value.the-variants.{U8, U16, U32, Real32}
 use Rattle.model.specs.declared.Kind.{Kind}
 use Rattle.model.specs.declared.Kind.the-variants as K
 use Rattle.model.specs.declared.Parameter.{Parameter}
@@ -19,7 +19,7 @@ use Rattle.model.specs.declared.Verdict.the-variants.{Inside, Outside, A
 use Rattle.model.specs.declared.Settings.{Settings}
 use Rattle.model.specs.Bytes.{within}
 use Rattle.model.specs.Reading.{judgeReal}
-use Rattle.model.specs.Values.{widthOf, numberOf, encoded, floatOf}
+use Rattle.model.specs.Values.{numberOf, encoded, floatOf}
 
 -- ---- The columns of the table
 

@@ -6,14 +6,13 @@
 use Prim.Native.Nat.{ℕ}
 use mathlib.Core.Bool.{Bool, true, false, cond, not, _&&_, _||_}
 use mathlib.Core.List.{List, [], _∷_, _++_}
-use lib.Dec.{eqb, leb, ltb}
+use lib.Dec.{eqb, ltb}
 use lib.ListN.{length, replicate}
 use Rattle.model.specs.declared.Service.{Service}
 use Rattle.model.specs.declared.Service.the-variants.{Nothing, Tick, Sample, Nmt, Sync, Remote, Sdo, Lss}
 use Rattle.model.specs.declared.Change.{Change}
 use Rattle.model.specs.declared.Change.the-variants.{Keep, Write, Save, TakeOut, Load, SavePending}
 use Rattle.model.specs.declared.Groups.the-variants.{Both}
-use Rattle.model.specs.declared.Parameter.{Parameter}
 use Rattle.model.specs.declared.Frame.{Frame}
 use Rattle.model.specs.declared.Identity.{Identity}
 use Rattle.model.specs.declared.Settings.{Settings}

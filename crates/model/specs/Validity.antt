@@ -1,7 +1,7 @@
 -- Document 01, "Validity": what a signature covers, when a validity byte may be A5h, and which change sets it to 0. Assumes nothing.
 -- Throughout, f gives the value of each parameter: those in force, or those of a record in the store.
 use Prim.Native.Nat.{ℕ, _+_}
-use mathlib.Core.Bool.{Bool, true, false, not, _&&_, _||_}
+use mathlib.Core.Bool.{Bool, not, _&&_, _||_}
 use mathlib.Core.List.{List, [], _∷_, _++_}
 use lib.Dec.{eqb}
 use Rattle.model.specs.declared.Value.{Value}

@@ -1,13 +1,13 @@
 -- From what the parts of a call did to what the call gives. Assumes nothing.
 use mathlib.Core.Path.{_≡_, refl, sym, ap, _∙_, subst}
 use mathlib.Core.Bool.{Bool, true, false, cond, false≢true}
-use mathlib.Core.List.{List, [], _∷_, _++_, append-nil}
+use mathlib.Core.List.{List, [], _++_, append-nil}
 use Prim.Native.Nat.{ℕ, _≤_}
 use lib.Dec.{eqb}
 use lib.ListN.{length}
 use borrow.Author.Tests.{ne-eqb}
 use Rattle.model.specs.declared.Service.{Service}
-use Rattle.model.specs.declared.Service.the-variants.{Nothing, Tick, Sample, Nmt, Sync, Remote, Sdo, Lss}
+use Rattle.model.specs.declared.Service.the-variants.{Nothing, Tick, Sample, Nmt, Sync, Remote}
 use Rattle.model.specs.declared.Change.{Change}
 use Rattle.model.specs.declared.Change.the-variants.{Keep, Write, Save, TakeOut, Load, SavePending}
 use Rattle.model.specs.declared.Groups.the-variants.{Both}

@@ -1,11 +1,10 @@
 -- What the two calls give, and what their parts may count on. Assumes nothing.
 use Prim.Native.Nat.{ℕ}
 use mathlib.Core.Path.{_≡_}
-use mathlib.Core.Bool.{Bool, true, false}
+use mathlib.Core.Bool.{true}
 use mathlib.Core.List.{List, _++_}
 use lib.ListN.{length}
 use Rattle.model.specs.declared.Service.{Service}
-use Rattle.model.specs.declared.Service.the-variants.{Nothing, Tick, Sample, Nmt, Sync, Remote, Sdo, Lss}
 use Rattle.model.specs.declared.Change.{Change}
 use Rattle.model.specs.declared.Reply.{Reply}
 use Rattle.model.specs.declared.Core.{Core}
@@ -14,7 +13,6 @@ use Rattle.model.specs.declared.Answer.{Answer}
 use Rattle.model.specs.Frames.{framesOf}
 use Rattle.model.specs.Store.{read}
 use Rattle.model.specs.Parts.{withCore}
-use Rattle.model.specs.Rules.{rules}
 use Rattle.model.specs.Step.{Outcome, Answered, done, changeOf, reply, heard, booted, changed, reports, served}
 use Rattle.image.specs.declared.Sizes.{Sizes}
 use Rattle.rules.specs.Fit.{Fit}

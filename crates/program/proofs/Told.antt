@@ -3,9 +3,9 @@
 use mathlib.Core.Path.{_≡_, refl, sym, ap, _∙_, subst}
 use mathlib.Core.Bool.{Bool, true, false, cond}
 use mathlib.Core.List.{List, [], _∷_}
-use Prim.Native.Nat.{ℕ, _≤_, _<_}
+use Prim.Native.Nat.{ℕ}
 use native.Mathlib.Omega.{arith}
-use borrow.Author.Tests.{eqb-true, eqb-false}
+use borrow.Author.Tests.{eqb-true}
 use lib.Dec.{eqb}
 use lib.ListN.{length}
 use Rattle.model.specs.declared.Answer.{Answer}
@@ -13,9 +13,8 @@ use Rattle.model.specs.declared.Identity.{Identity}
 use Rattle.model.specs.declared.Frame.{Frame}
 use Rattle.model.specs.declared.State.{State}
 use Rattle.model.specs.Frames.{overlay}
-use Rattle.model.specs.Step.{done, outputSize, refusal, powerOnRefusal, step, powerOn, zeroStore, Answered, given, refused, eventAnswer, powerOnAnswer}
-use Rattle.model.specs.Run.{Call, Line, powered, called, sentIn, World, after, begun, continued}
-use Rattle.model.specs.Program.{lineText}
+use Rattle.model.specs.Step.{done, outputSize, refusal, powerOnRefusal, step, powerOn, zeroStore, given, refused, eventAnswer, powerOnAnswer}
+use Rattle.model.specs.Run.{powered, called, begun, continued}
 use Rattle.node.specs.Gives.{Gives}
 use Rattle.text.specs.Written.{Written}
 use Rattle.text.specs.Sent.{framesIn, added, Shown}
@@ -23,8 +22,7 @@ use Rattle.text.proofs.Sent.{line-added}
 use Rattle.laws.proofs.Ids.{Ids, step-ids, power-on-ids}
 use Rattle.laws.proofs.History.{refusal-rules}
 use Rattle.laws.proofs.HalfWrites.{power-on-store}
-use Rattle.program.specs.declared.Turn.{Turn}
-use Rattle.program.specs.Turns.{calling, world, Turned, Begins}
+use Rattle.program.specs.Turns.{Turned, Begins}
 
 -- 11 bits have three digits
 shown : (fs : List Frame) → Ids fs → Shown fs

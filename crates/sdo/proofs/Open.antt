@@ -1,6 +1,6 @@
 -- Where an open upload stands, by the rule of the state: at the byte that it is at it has one toggle alone. Assumes nothing.
 use mathlib.Core.Path.{_≡_, refl}
-use mathlib.Core.Bool.{Bool, true, false, _||_, and-eq-true-iff}
+use mathlib.Core.Bool.{true, _||_, and-eq-true-iff}
 use Prim.Native.Nat.{ℕ}
 use native.Mathlib.Omega.{arith}
 use borrow.Author.Tests.{eqb-true}

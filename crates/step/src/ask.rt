@@ -22,6 +22,7 @@ ghost use Rattle.model.specs.declared.Service.the-variants as Service;
 ghost use Rattle.model.specs.declared.Change.the-variants as Change;
 ghost use Rattle.model.specs.Frames.{framesOf};
 ghost use Rattle.model.specs.Store.{Saved};
+ghost use Rattle.model.specs.Sdo as Sdo;
 ghost use Rattle.model.specs.Step as Step;
 ghost use Rattle.rules.specs.Fit.{Fit};
 ghost use Rattle.step.specs.Asked.{IsAsked};
@@ -86,12 +87,19 @@ pub fn ask_nmt(command: u8, to: u8, s: State, store: &[u8]) -> Asked
     }
 }
 
-// An SDO request, which is served where it is for this node, unless Stopped.
+// Whether an SDO request is served: it is for this node, which is not Stopped.
+fn serves(to: u8, s: State) -> bool
+    ensures { λ r. ⌜ r ≡ Sdo.serves to s ⌝ }
+{
+    (to == s.core.active.id) & (s.core.nmt != 4)
+}
+
+// An SDO request, where it is served.
 pub fn ask_sdo(to: u8, request: SdoRequest, s: State) -> Asked
     requires { ⌜ Fit s ⌝ }
     ensures { λ r. ⌜ ((st : List ℕ) → IsAsked (Service.Sdo to request) s st r) ⌝ }
 {
-    if (to == s.core.active.id) & (s.core.nmt != 4) {
+    if serves(to, s) {
         let served = serve(request, s);
         let change = served.change;
         let reply = served.reply;
@@ -100,13 +108,13 @@ pub fn ask_sdo(to: u8, request: SdoRequest, s: State) -> Asked
     no_matter()
 }
 
-// The core after it, the restart of a timer apart: it moves the open upload, where it is served.
+// The core after it, the restart of a timer apart: it moves the open upload.
 pub fn sdo_heard(to: u8, request: SdoRequest, s: State) -> Core
     requires { ⌜ Fit s ⌝ }
     ensures { λ r. ⌜ r ≡ Step.heard (Service.Sdo to request) s ⌝ }
 {
     let mut c = s.core;
-    if (to == s.core.active.id) & (s.core.nmt != 4) {
+    if serves(to, s) {
         let upload = upload_after(request, s);
         c.upload = upload;
         return c;

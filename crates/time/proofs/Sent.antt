@@ -1,7 +1,7 @@
 -- What a sender lays, frame by frame, is what a tick sends. Assumes nothing.
 use mathlib.Core.Path.{_≡_}
 use mathlib.Core.Bool.{not, _&&_}
-use mathlib.Core.List.{List, [], _∷_, _++_, append-assoc}
+use mathlib.Core.List.{[], _∷_, _++_, append-assoc}
 use Prim.Native.Nat.{_+_, _-_}
 use Rattle.model.specs.declared.State.{State}
 use Rattle.model.specs.Bytes.{le}

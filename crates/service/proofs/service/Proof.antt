@@ -1,5 +1,4 @@
 -- `service::service` meets its contract: each return by the kind. Assumes nothing.
-use mathlib.Core.Path.{_∙_, sym}
 use borrow.Author.Tests.{ne-eqb}
 use Rattle.model.specs.Choice.{firstHit}
 use Rattle.model.specs.Service as Asked
