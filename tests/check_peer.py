@@ -27,7 +27,10 @@ class Answer(ctypes.Structure):
 
 
 def load(path):
-    lib = ctypes.CDLL(path)
+    try:
+        lib = ctypes.CDLL(path)
+    except OSError as error:
+        sys.exit('no peer: %s' % error)
     lib.peer_power_on.restype = Answer
     lib.peer_power_on.argtypes = [ctypes.c_void_p, ctypes.POINTER(Identity), ctypes.c_void_p,
                                   ctypes.c_size_t, ctypes.c_void_p, ctypes.c_size_t]
@@ -100,8 +103,11 @@ def same(row, expected, found):
 
 
 def rows(path):
-    with open(path, encoding='utf-8') as file:
-        lines = [line.rstrip('\n').split('\t') for line in file if line.strip()]
+    try:
+        with open(path, encoding='utf-8') as file:
+            lines = [line.rstrip('\n').split('\t') for line in file if line.strip()]
+    except OSError as error:
+        sys.exit('no signatures: %s' % error)
     return lines[0], lines[1:]
 
 

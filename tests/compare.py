@@ -25,8 +25,10 @@ def lines(command, records):
 
 
 def main():
-    count = int(sys.argv[1]) if len(sys.argv) > 1 else 200000
-    seed = int(sys.argv[2]) if len(sys.argv) > 2 else 1
+    words = sys.argv[1:]
+    if len(words) > 2 or not all(word.isdigit() for word in words):
+        sys.exit(__doc__)
+    count, seed = [int(word) for word in words] + [200000, 1][len(words):]
     subprocess.run(['sh', os.path.join(HERE, 'peer', 'build.sh')], check=True, stdout=subprocess.DEVNULL)
     left = count
     while left > 0:

@@ -746,7 +746,7 @@ class Maker:
 
 
 def main():
-    if len(sys.argv) != 3:
+    if len(sys.argv) != 3 or not (sys.argv[1].isdigit() and sys.argv[2].isdigit()):
         sys.exit(__doc__)
     sys.stdout.buffer.write(Maker(int(sys.argv[1]), int(sys.argv[2])).make())
 

@@ -22,6 +22,8 @@ def write(size, index, sub, value):
 
 
 def main():
+    if len(sys.argv) != 1:
+        sys.exit(__doc__)
     out = sys.stdout.buffer
     for event in (write(2, 0x1017, 0, 997), write(2, 0x1800, 5, 331), write(2, 0x1301, 2, 89),
                   write(2, 0x13ff, 1, 0xdf68), write(1, 0x13fe, 0, 0xa5), write(2, 0x51ff, 1, 0xea44), write(1, 0x51fe, 0, 0xa5),
