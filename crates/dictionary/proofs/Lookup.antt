@@ -8,7 +8,7 @@ use mathlib.Core.Bool.{cond}
 use borrow.Author.Tests.{ne-eqb}
 use Rattle.model.specs.declared.Entry.the-variants.{Name}
 use Rattle.model.specs.declared.Found.the-variants.{NoSub}
-use Rattle.model.specs.Dictionary.{Sub, Object, Place, _▹_, _▸_, single, several, objects, subIn, entryIn, foundIn}
+use Rattle.model.specs.Dictionary.{Sub, Object, Place, _holds_, _▸_, single, several, objects, subIn, entryIn, foundIn}
 
 -- N, and x is none of these keys
 abbrev pub Rest : Type 0 → ℕ → List ℕ → Type 0
@@ -19,7 +19,7 @@ Rest N x (k ∷ ks) = Rest (N × (x ≡ k → ⊥)) x ks
 
 abbrev pub subs : List Sub → List ℕ
 subs [] = []
-subs (k ▹ e ∷ es) = k ∷ subs es
+subs (k holds e ∷ es) = k ∷ subs es
 
 abbrev pub subsOf : Object → List ℕ
 subsOf (single e) = 0 ∷ []
@@ -27,7 +27,7 @@ subsOf (several highest es) = 0 ∷ subs es
 
 none-fits : (x : ℕ) (es : List Sub) (N : Type 0) → Rest N x (subs es) → N × (NoSub ≡ subIn x es)
 none-fits x [] N h = (h, refl)
-none-fits x (k ▹ e ∷ es) N h =
+none-fits x (k holds e ∷ es) N h =
     let r = none-fits x es (N × (x ≡ k → ⊥)) h in
     (r .0 .0, rw (ne-eqb x k (r .0 .1)) (r .1))
 

@@ -81,7 +81,7 @@ fn answer(code: u32, change: Change) -> Checked
     }
 }
 
-// ---- Access: the mark * and the length
+// ---- Access: the star * and the length
 
 // The size of a write: the entry's own where none is indicated.
 fn size_for(k: Kind, size: u8) -> u8
@@ -109,7 +109,7 @@ fn access_hit(locked: bool, long: bool, short: bool) -> u32
     0
 }
 
-// An entry marked * is locked while Operational; then the length counts.
+// A starred entry (*) is locked while Operational; then the length counts.
 fn access_code(star: bool, k: Kind, size: u8, s: State) -> u32
     ensures { λ r. ⌜ r ≡ firstHit (Sdo.accessChecks star k size s) Sdo.accepted ⌝ }
 {
@@ -134,8 +134,8 @@ fn range_code(verdict: Verdict) -> u32
 }
 
 // A5h into a validity byte that it would make false, judged by the signature in force.
-fn false_mark(p: Parameter, v: Value, s: State) -> bool
-    ensures { λ r. ⌜ r ≡ Sdo.falseMark p v s ⌝ }
+fn unearned(p: Parameter, v: Value, s: State) -> bool
+    ensures { λ r. ⌜ r ≡ Sdo.unearned p v s ⌝ }
 {
     let k = s.settings;
     let n = number_of(v);
@@ -151,8 +151,8 @@ fn value_code(p: Parameter, v: Value, s: State) -> u32
     ensures { λ r. ⌜ r ≡ firstHit (Sdo.valueChecks p v s) Sdo.accepted ⌝ }
 {
     let range = range_code(judge(p, v));
-    let mark = code_if(false_mark(p, v, s), NOT_VALID);
-    first_code(range, mark)
+    let claim = code_if(unearned(p, v, s), NOT_VALID);
+    first_code(range, claim)
 }
 
 // ---- The write checks

@@ -5,10 +5,10 @@ use Prim.Native.Nat.{ℕ, _+_, _-_, _≤_}
 use native.Mathlib.Omega.{arith}
 use lib.ListN.{length, take, replicate, length-append, length-replicate}
 use lib.Seq.{length-take-le}
-use Rattle.model.specs.Bytes.{le}
+use Rattle.model.specs.Bytes.{lowBytes}
 use Rattle.model.specs.Store.{packed}
 use Rattle.wire.specs.Put.{put}
-use Rattle.wire.proofs.Numbers.{length-le}
+use Rattle.model.proofs.Numbers.{length-low}
 use Rattle.wire.proofs.Puts.{starts-none, starts-take, starts-more, starts-all}
 
 pub length-packed : (n c a : List ℕ) → length n + length c + length a ≤ 56 → length (packed n c a) ≡ 56
@@ -34,28 +34,28 @@ records-law s s₁ s₂ s₃ s₄ n c a e h e₁ e₂ e₃ e₄ =
     ap (λ (k : ℕ). take k s₄) (sym (length-packed n c a h)) ∙ t₄ .so-far
 
 pub places-law : (s s₁ s₂ s₃ : List ℕ) (x y z : ℕ) → length s ≡ 64
-    → s₁ ≡ put 56 (le 2 x) s
-    → s₂ ≡ put 58 (le 2 y) s₁
-    → s₃ ≡ put 60 (le 2 z) s₂
-    → take 62 s₃ ≡ take 56 s ++ le 2 x ++ le 2 y ++ le 2 z
+    → s₁ ≡ put 56 (lowBytes 2 x) s
+    → s₂ ≡ put 58 (lowBytes 2 y) s₁
+    → s₃ ≡ put 60 (lowBytes 2 z) s₂
+    → take 62 s₃ ≡ take 56 s ++ lowBytes 2 x ++ lowBytes 2 y ++ lowBytes 2 z
 places-law s s₁ s₂ s₃ x y z e e₁ e₂ e₃ =
     let p : List ℕ = take 56 s in
     let lp : length p ≡ 56 = length-take-le 56 s (omega arith) in
-    let lx = length-le 2 x in
-    let ly = length-le 2 y in
-    let lz = length-le 2 z in
-    let l₁ = length-append p (le 2 x) in
-    let l₂ = length-append (p ++ le 2 x) (le 2 y) in
-    let l₃ : length (p ++ le 2 x ++ le 2 y ++ le 2 z) ≡ 62 = omega (arith, length-append (p ++ le 2 x ++ le 2 y) (le 2 z)) in
-    let t₁ = starts-more p (le 2 x) s s₁ 64 56 (starts-take 56 s 64 e (omega arith)) (omega arith) (omega arith) e₁ in
-    let t₂ = starts-more (p ++ le 2 x) (le 2 y) s₁ s₂ 64 58 t₁ (omega arith) (omega arith) e₂ in
-    let t₃ = starts-more (p ++ le 2 x ++ le 2 y) (le 2 z) s₂ s₃ 64 60 t₂ (omega arith) (omega arith) e₃ in
+    let lx = length-low 2 x in
+    let ly = length-low 2 y in
+    let lz = length-low 2 z in
+    let l₁ = length-append p (lowBytes 2 x) in
+    let l₂ = length-append (p ++ lowBytes 2 x) (lowBytes 2 y) in
+    let l₃ : length (p ++ lowBytes 2 x ++ lowBytes 2 y ++ lowBytes 2 z) ≡ 62 = omega (arith, length-append (p ++ lowBytes 2 x ++ lowBytes 2 y) (lowBytes 2 z)) in
+    let t₁ = starts-more p (lowBytes 2 x) s s₁ 64 56 (starts-take 56 s 64 e (omega arith)) (omega arith) (omega arith) e₁ in
+    let t₂ = starts-more (p ++ lowBytes 2 x) (lowBytes 2 y) s₁ s₂ 64 58 t₁ (omega arith) (omega arith) e₂ in
+    let t₃ = starts-more (p ++ lowBytes 2 x ++ lowBytes 2 y) (lowBytes 2 z) s₂ s₃ 64 60 t₂ (omega arith) (omega arith) e₃ in
     ap (λ (k : ℕ). take k s₃) (sym l₃) ∙ t₃ .so-far
 
-pub crc-law : (s s₁ : List ℕ) (x : ℕ) → length s ≡ 64 → s₁ ≡ put 62 (le 2 x) s → s₁ ≡ take 62 s ++ le 2 x
+pub crc-law : (s s₁ : List ℕ) (x : ℕ) → length s ≡ 64 → s₁ ≡ put 62 (lowBytes 2 x) s → s₁ ≡ take 62 s ++ lowBytes 2 x
 crc-law s s₁ x e e₁ =
     let lp : length (take 62 s) ≡ 62 = length-take-le 62 s (omega arith) in
-    let lx = length-le 2 x in
-    starts-all (take 62 s ++ le 2 x) s₁ 64
-    (starts-more (take 62 s) (le 2 x) s s₁ 64 62 (starts-take 62 s 64 e (omega arith)) (omega arith) (omega arith) e₁)
-    (omega (arith, length-append (take 62 s) (le 2 x)))
+    let lx = length-low 2 x in
+    starts-all (take 62 s ++ lowBytes 2 x) s₁ 64
+    (starts-more (take 62 s) (lowBytes 2 x) s s₁ 64 62 (starts-take 62 s 64 e (omega arith)) (omega arith) (omega arith) e₁)
+    (omega (arith, length-append (take 62 s) (lowBytes 2 x)))

@@ -3,7 +3,7 @@ ghost use mathlib.Core.Path.{_≡_};
 ghost use mathlib.Core.List.{_++_};
 ghost use Prim.Native.Nat.{_+_, _≤_, _<_};
 ghost use lib.ListN.{length, take};
-ghost use Rattle.model.specs.Bytes.{le, part, sameBytes};
+ghost use Rattle.model.specs.Bytes.{lowBytes, part, sameBytes};
 ghost use Rattle.model.specs.Signature.{crcOf};
 ghost use Rattle.model.specs.Store.{packed, build, lengthAt};
 ghost use Rattle.image.specs.Sizes.{placeBy, Sized};
@@ -35,7 +35,7 @@ fn write_records(out: &mut [u8], n: &[u8], c: &[u8], a: &[u8])
 // The trailer's places of C, A and N, by the sizes of the records.
 fn write_places(out: &mut [u8], n: usize, c: usize, a: usize)
     requires { ⌜ (length (now out) ≡ 64) × (n + c + a ≤ 56) ⌝ }
-    ensures { λ _. ⌜ take 62 (now (out .exit)) ≡ take 56 (now (out .entry)) ++ le 2 (placeBy c n) ++ le 2 (placeBy a (n + c)) ++ le 2 (placeBy n 0) ⌝ }
+    ensures { λ _. ⌜ take 62 (now (out .exit)) ≡ take 56 (now (out .entry)) ++ lowBytes 2 (placeBy c n) ++ lowBytes 2 (placeBy a (n + c)) ++ lowBytes 2 (placeBy n 0) ⌝ }
 {
     let place_c = place_of(c, n);
     let place_a = place_of(a, n + c);
@@ -48,7 +48,7 @@ fn write_places(out: &mut [u8], n: usize, c: usize, a: usize)
 // The CRC of bytes 0..61.
 fn write_crc(out: &mut [u8])
     requires { ⌜ length (now out) ≡ 64 ⌝ }
-    ensures { λ _. ⌜ now (out .exit) ≡ take 62 (now (out .entry)) ++ le 2 (crcOf (take 62 (now (out .entry)))) ⌝ }
+    ensures { λ _. ⌜ now (out .exit) ≡ take 62 (now (out .entry)) ++ lowBytes 2 (crcOf (take 62 (now (out .entry)))) ⌝ }
 {
     let crc = wire::crc::crc(&out[..62]);
     wire::bytes::put16(out, 62, crc);

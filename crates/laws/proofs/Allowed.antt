@@ -31,9 +31,9 @@ use Rattle.model.specs.Store.{nodeId, bitIndex, read}
 use Rattle.model.specs.Parts.{idOf, isOperational, isPreOperational}
 use Rattle.model.specs.Dictionary.{find}
 use Rattle.model.specs.Nmt.{isFor, resetAsked, nmtChange}
-use Rattle.model.specs.Sdo.{rangeCode, falseMark, writeCode, asked, checkedWrite, changeIn, sdoChange, serves}
+use Rattle.model.specs.Sdo.{rangeCode, unearned, writeCode, asked, checkedWrite, changeIn, sdoChange, serves}
 use Rattle.model.specs.Lss.{inConfiguration, lssChange}
-use Rattle.model.specs.Rules.{rules, ruleIds, ruleBits, ruleRanges, ruleMarks}
+use Rattle.model.specs.Rules.{rules, ruleIds, ruleBits, ruleRanges, ruleHonest}
 use Rattle.model.specs.Step.{changeOf}
 use Rattle.laws.proofs.Tests.{cond-case, and-l, and-r, and-both, hit-case, hit-zero}
 use Rattle.laws.proofs.Values.{decoded-kind, decoded-holds}
@@ -56,17 +56,17 @@ pending-bit-ok s r = search (and-l, and-r)
 
 -- each group of the values in force is sound
 pub sound-ok : (s : State) → rules s ≡ true → (g : Group) → sound g (inForce (s .settings)) ≡ true
-unfolding rules ruleRanges ruleMarks sound
+unfolding rules ruleRanges ruleHonest sound
 sound-ok s r C = and-both (inRanges (rows C) (inForce (s .settings))) (honest C (inForce (s .settings))) (search (and-l, and-r) depth 7) (search (and-l, and-r) depth 7)
 sound-ok s r A = and-both (inRanges (rows A) (inForce (s .settings))) (honest A (inForce (s .settings))) (search (and-l, and-r) depth 7) (search (and-l, and-r) depth 7)
 
 -- ---- an accepted write
 
--- its value may stand in the parameter, a marked one is not written in Operational, and A5h makes no false validity byte
+-- its value may stand in the parameter, a starred one is not written in Operational, and A5h makes no false validity byte
 pub record Written (p : Parameter) (v : Value) (s : State) : Type 0 where
   pub fine : Fine p v
   pub unlocked : row p .star && isOperational (s .core) ≡ false
-  pub honestly : falseMark p v s ≡ false
+  pub honestly : unearned p v s ≡ false
 
 -- what each change that is made can count on
 abbrev pub Allowed : Change → State → Type 0

@@ -5,12 +5,7 @@ use Prim.Native.Nat.{ℕ, zero, suc, _^_, _<_}
 use native.Mathlib.Omega.{arith}
 use lib.ListN.{length, take, drop}
 use lib.Seq.{take-at, drop-at}
-use Rattle.model.specs.Bytes.{unle, part}
-
--- every element is a byte
-abbrev pub Bytes : List ℕ → Type 0
-Bytes [] = Unit {0}
-Bytes (b ∷ bs) = (b < 256) × Bytes bs
+use Rattle.model.specs.Bytes.{Bytes, asNumber, part}
 
 bytes-drop : (n : ℕ) (l : List ℕ) → Bytes l → Bytes (drop n l)
 bytes-drop zero l h = h
@@ -27,15 +22,15 @@ unfolding part
 bytes-part at n l h = bytes-take n (drop at l) (bytes-drop at l h)
 
 -- n bytes make a number below 256 ^ n
-unle-lt : (n : ℕ) (l : List ℕ) → Bytes l → unle (take n l) < 256 ^ n
-unfolding unle
-unle-lt zero l h = omega arith
-unle-lt (suc n) [] h = let k = unle-lt n [] tt in omega arith
-unle-lt (suc n) (b ∷ bs) h = let k = unle-lt n bs (h .1) in omega arith
+number-lt : (n : ℕ) (l : List ℕ) → Bytes l → asNumber (take n l) < 256 ^ n
+unfolding asNumber
+number-lt zero l h = omega arith
+number-lt (suc n) [] h = let k = number-lt n [] tt in omega arith
+number-lt (suc n) (b ∷ bs) h = let k = number-lt n bs (h .1) in omega arith
 
-pub part-lt : (at n : ℕ) (l : List ℕ) → Bytes l → unle (part at n l) < 256 ^ n
+pub part-lt : (at n : ℕ) (l : List ℕ) → Bytes l → asNumber (part at n l) < 256 ^ n
 unfolding part
-part-lt at n l h = unle-lt n (drop at l) (bytes-drop at l h)
+part-lt at n l h = number-lt n (drop at l) (bytes-drop at l h)
 
 -- some bytes behind others and before others
 pub part-mid : (p v r : List ℕ) (at k : ℕ) → length p ≡ at → length v ≡ k → part at k (p ++ (v ++ r)) ≡ v

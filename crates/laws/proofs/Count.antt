@@ -1,4 +1,4 @@
--- "0 is done, with count 0..4": no event and no power-on sends more than four frames, whatever the state and the store. And a tick, which
+-- Four frames are all that an output needs room for: no event and no power-on sends more, whatever the state and the store. And a tick, which
 -- sends no EMCY, leaves none due. Assumes nothing.
 use Prim.Native.Nat.{ℕ, _≤_}
 use native.Mathlib.Omega.{arith}

@@ -10,7 +10,7 @@ use Rattle.model.specs.declared.Change.{Change}
 use Rattle.model.specs.declared.Change.the-variants.{Keep, Write, Save, TakeOut, Load, SavePending}
 use Rattle.model.specs.declared.Settings.{Settings}
 use Rattle.model.specs.Settings.{row, same, has, inForce, Now, stays, becomes}
-use Rattle.model.specs.Validity.{validityOf, unmarks, changes}
+use Rattle.model.specs.Validity.{validityOf, revokes, changes}
 use Rattle.model.specs.Store.{Saved, loaded}
 use Rattle.model.specs.Changes.{effect, applied}
 use Rattle.laws.proofs.Tests.{cond-case, and-l, and-r}
@@ -35,9 +35,9 @@ brings-map P Q f sv (Load gs id) h = λ q. f q (loaded id sv q) (h q)
 brings-map P Q f sv SavePending h = tt
 
 -- a forced change is one of a validity byte
-pub unmarks-validity : (p q : Parameter) → unmarks p q ≡ true → same q (validityOf (row p .group)) ≡ true
-unfolding unmarks
-unmarks-validity p q h = and-l _ _ h
+pub revokes-validity : (p q : Parameter) → revokes p q ≡ true → same q (validityOf (row p .group)) ≡ true
+unfolding revokes
+revokes-validity p q h = and-l _ _ h
 
 -- the values after a change
 abbrev pub new : Change → Settings → Saved → Parameter → Value
@@ -52,8 +52,8 @@ module _ (P : Parameter → Value → Type 0) (zero : (g : Group) → P (validit
   effect-is Keep h q = tt
   effect-is (Write p v) h q =
       cond-case (Becomes P q) (same q p) (λ e. subst (λ (x : Parameter). P x v) (sym (same-eq q p e)) h)
-      (λ _. cond-case (Becomes P q) (unmarks p q && changes p v (inForce k))
-      (λ e. zero-in q (row p .group) (unmarks-validity p q (and-l _ (changes p v (inForce k)) e))) (λ _. tt))
+      (λ _. cond-case (Becomes P q) (revokes p q && changes p v (inForce k))
+      (λ e. zero-in q (row p .group) (revokes-validity p q (and-l _ (changes p v (inForce k)) e))) (λ _. tt))
   effect-is (Save gs) h q = tt
   effect-is (TakeOut gs) h q =
       cond-case (Becomes P q) (has gs (row q .group) && same q (validityOf (row q .group)))

@@ -11,9 +11,9 @@ use lib.Dec.{eqb}
 use lib.ListN.{length, length-append, length-replicate}
 use Rattle.model.specs.declared.Group.{Group}
 use Rattle.model.specs.declared.Group.the-variants.{C, A}
-use Rattle.model.specs.Bytes.{le, part, numberAt, sameBytes}
+use Rattle.model.specs.Bytes.{lowBytes, part, numberAt, sameBytes}
 use Rattle.model.specs.Store.{sizeN, sizeOfRecord, soundN, soundRecord, okN, ok, placeIn, packed, placed, build, Saved, nothing, good, lengthAt, nIn, cIn, aIn, savedIf, isGood, read, savedN, saved}
-use Rattle.wire.proofs.Numbers.{length-le, unle-le}
+use Rattle.model.proofs.Numbers.{length-low, number-low}
 use Rattle.laws.proofs.Bytes.{part-mid}
 use Rattle.laws.proofs.Tests.{cond-case, and-l, and-r}
 
@@ -81,8 +81,8 @@ pub size-le : (k : ℕ) (r : List ℕ) → Sized k r → length r ≤ k
 size-le k r o = ⊎-elim (λ e. omega arith) (λ e. omega arith) o
 
 -- a number behind some bytes
-number-mid : (p r : List ℕ) (at x : ℕ) → length p ≡ at → x < 65536 → numberAt at 2 (p ++ (le 2 x ++ r)) ≡ x
-number-mid p r at x e h = rw (part-mid p (le 2 x) r at 2 e (length-le 2 x)) (unle-le 2 x h)
+number-mid : (p r : List ℕ) (at x : ℕ) → length p ≡ at → x < 65536 → numberAt at 2 (p ++ (lowBytes 2 x ++ r)) ≡ x
+number-mid p r at x e h = rw (part-mid p (lowBytes 2 x) r at 2 e (length-low 2 x)) (number-low 2 x h)
 
 place-lt : (at : ℕ) (r : List ℕ) → at < 65536 → placeIn at r < 65536
 unfolding placeIn
@@ -102,11 +102,11 @@ module _ (n c a : List ℕ) (fits : length n + length c + length a ≤ 56) where
 
   length-placed : length (placed n c a) ≡ 62
   unfolding placed
-  length-placed = simp (length-append, length-le) (omega (arith, length-packed))
+  length-placed = simp (length-append, length-low) (omega (arith, length-packed))
 
   pub length-build : length (build n c a) ≡ 64
   unfolding build
-  length-build = simp (length-append, length-le) (omega (arith, length-placed))
+  length-build = simp (length-append, length-low) (omega (arith, length-placed))
 
   place-c : numberAt 56 2 (build n c a) ≡ placeIn (length n) c
   unfolding build placed
@@ -116,17 +116,17 @@ module _ (n c a : List ℕ) (fits : length n + length c + length a ≤ 56) where
   unfolding build placed
   place-a =
       simp append-assoc
-      (rw (← (append-assoc (packed n c a) (le 2 (placeIn (length n) c)) _))
-      (number-mid (packed n c a ++ le 2 (placeIn (length n) c)) _ 58 _
-      (simp (length-append, length-le) (omega (arith, length-packed)))
+      (rw (← (append-assoc (packed n c a) (lowBytes 2 (placeIn (length n) c)) _))
+      (number-mid (packed n c a ++ lowBytes 2 (placeIn (length n) c)) _ 58 _
+      (simp (length-append, length-low) (omega (arith, length-packed)))
       (place-lt _ _ (omega arith))))
 
   place-n : numberAt 60 2 (build n c a) ≡ placeIn 0 n
   unfolding build placed
   place-n =
-      rw (append-assoc _ (le 2 (placeIn 0 n)) _)
-      (number-mid (packed n c a ++ le 2 (placeIn (length n) c) ++ le 2 (placeIn (length n + length c) a)) _ 60 _
-      (simp (length-append, length-le) (omega (arith, length-packed)))
+      rw (append-assoc _ (lowBytes 2 (placeIn 0 n)) _)
+      (number-mid (packed n c a ++ lowBytes 2 (placeIn (length n) c) ++ lowBytes 2 (placeIn (length n + length c) a)) _ 60 _
+      (simp (length-append, length-low) (omega (arith, length-packed)))
       (place-lt _ _ (omega arith)))
 
   part-n : part 0 (length n) (build n c a) ≡ n

@@ -12,14 +12,15 @@ use Rattle.model.specs.declared.Parameter.{Parameter}
 use Rattle.model.specs.declared.Group.{Group}
 use Rattle.model.specs.declared.Group.the-variants.{C, A}
 use Rattle.model.specs.declared.Groups.{Groups}
-use Rattle.model.specs.Bytes.{part, byteAt}
+use Rattle.model.specs.Bytes.{part, byteAt, Bytes}
 use Rattle.model.specs.Values.{widthOf}
 use Rattle.model.specs.Settings.{row, has}
 use Rattle.model.specs.Validity.{sound}
 use Rattle.model.specs.Store.{recordOf, sizeOfRecord, placeOf, field, nodeId, bitIndex, soundN, soundRecord, okN, ok, build, Saved, nIn, cIn, aIn, savedIf, isGood, read, savedN, saved, orElse, defaultFor, factory, factoryPlace, groupFrom, followsId, loaded, addressFrom, renewed}
-use Rattle.model.specs.History.{Held, absent, kept, heldIn, heldFor, headOf, heldIdIn, isOther, settled}
+use Rattle.model.specs.Parts.{address}
+use Rattle.model.specs.History.{Held, absent, kept, heldIn, heldAddress, orFactory, heldFor, headOf, heldIdIn, isOther, atLoad}
 use Rattle.laws.proofs.Tests.{cond-case, cond-ap, and-l, and-r}
-use Rattle.laws.proofs.Bytes.{Bytes, bytes-part, part-lt, part-mid}
+use Rattle.laws.proofs.Bytes.{bytes-part, part-lt, part-mid}
 use Rattle.laws.proofs.Values.{typed-kind, typed-holds}
 use Rattle.laws.proofs.Image.{read-n}
 use Rattle.laws.proofs.Parameters.{Fits, AllFit, all-typed, default-fine}
@@ -93,22 +94,22 @@ other-id q sv id x xs e = go (followsId q) refl
     go false f = refl
 
 -- a load gives what is held, else the default, by the COB-ID rule
-pub loaded-settled : (q : Parameter) (id : ℕ) (sv : Saved) → 1 ≤ id → id ≤ 127
-    → loaded id sv q ≡ settled q id (heldFor sv q) (heldIdIn sv)
-unfolding heldFor settled groupFrom
-loaded-settled q id sv a b = go (saved (row q .group) sv) refl
+pub loaded-at : (q : Parameter) (id : ℕ) (sv : Saved) → 1 ≤ id → id ≤ 127
+    → loaded id sv q ≡ atLoad q id (heldFor sv q) (heldIdIn sv)
+unfolding heldFor atLoad groupFrom
+loaded-at q id sv a b = go (saved (row q .group) sv) refl
   where
-    go : (r : List ℕ) → saved (row q .group) sv ≡ r → loaded id sv q ≡ settled q id (heldFor sv q) (heldIdIn sv)
+    go : (r : List ℕ) → saved (row q .group) sv ≡ r → loaded id sv q ≡ atLoad q id (heldFor sv q) (heldIdIn sv)
     go [] e = rw e (loaded-record q id (defaultFor id) sv (default-fits id a b) (rw e (factory-part (row q .group) id a b)))
     go (x ∷ xs) e = rw (e, other-id q sv id x xs e) (unfold loaded in rw e refl)
 
-settled-fits : (q : Parameter) (id : ℕ) (v : Held Value) (c : Held ℕ) → 1 ≤ id → id ≤ 127 → FitsHeld q v → Fits q (settled q id v c)
-unfolding settled
-settled-fits q id absent c a b h = default-fits id a b q
-settled-fits q id (kept v) c a b h = cond-case (Fits q) (followsId q && isOther c id) (λ _. default-fits id a b q) (λ _. h)
+load-fits : (q : Parameter) (id : ℕ) (v : Held Value) (c : Held ℕ) → 1 ≤ id → id ≤ 127 → FitsHeld q v → Fits q (atLoad q id v c)
+unfolding atLoad
+load-fits q id absent c a b h = default-fits id a b q
+load-fits q id (kept v) c a b h = cond-case (Fits q) (followsId q && isOther c id) (λ _. default-fits id a b q) (λ _. h)
 
 pub loaded-fits : (q : Parameter) (id : ℕ) (sv : Saved) → 1 ≤ id → id ≤ 127 → FitsHeld q (heldFor sv q) → Fits q (loaded id sv q)
-loaded-fits q id sv a b h = rw (loaded-settled q id sv a b) (settled-fits q id (heldFor sv q) (heldIdIn sv) a b h)
+loaded-fits q id sv a b h = rw (loaded-at q id sv a b) (load-fits q id (heldFor sv q) (heldIdIn sv) a b h)
 
 -- ---- what is held after a store was written anew
 
@@ -164,3 +165,14 @@ address-ok st = go (savedN (read st)) (read-n st)
         → (nodeId (byteAt 0 (orElse r (1 ∷ 3 ∷ []))) ≡ true) × (bitIndex (byteAt 1 (orElse r (1 ∷ 3 ∷ []))) ≡ true)
     go [] h = (refl, refl)
     go (x ∷ xs) h = let k = there-n x xs h in (and-l _ (bitIndex (byteAt 1 (x ∷ xs))) k, and-r (nodeId x) _ k)
+
+-- the address at a load is the one that is held, or 1 and 3
+pub address-held : (sv : Saved) → addressFrom sv ≡ orFactory (heldAddress sv)
+unfolding addressFrom orFactory heldAddress
+address-held sv = go (savedN sv)
+  where
+    go : (r : List ℕ)
+        → let l = orElse r (1 ∷ 3 ∷ []) in
+        address (byteAt 0 l) (byteAt 1 l) ≡ orFactory (heldIn (λ (x : List ℕ). address (byteAt 0 x) (byteAt 1 x)) r)
+    go [] = refl
+    go (x ∷ xs) = refl

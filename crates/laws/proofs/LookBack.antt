@@ -11,17 +11,19 @@ use Rattle.model.specs.declared.Change.the-variants.{Keep, Write, Save, TakeOut
 use Rattle.model.specs.declared.Settings.{Settings}
 use Rattle.model.specs.declared.State.{State}
 use Rattle.model.specs.Settings.{row, has, inForce, Now}
+use Rattle.model.specs.declared.Address.{Address}
+use Rattle.model.specs.Bytes.{byteAt}
 use Rattle.model.specs.Store.{recordN, recordOf, soundN, okN, ok, Saved, read, saved, readdressed}
 use Rattle.model.specs.Changes.{effect, applied, recordsOf, stored}
-use Rattle.model.specs.Parts.{idOf}
-use Rattle.model.specs.History.{activeId, heldFor, heldIdIn, heldId, value, held}
+use Rattle.model.specs.Parts.{address, idOf}
+use Rattle.model.specs.History.{Held, kept, heldIn, heldAddress, activeId, heldFor, heldIdIn, heldId, value, held}
 use Rattle.model.specs.Rules.{rules}
 use Rattle.laws.proofs.Tests.{cond-case, cond-ap, and-both, within-is}
 use Rattle.laws.proofs.Image.{read-ok}
 use Rattle.laws.proofs.Parameters.{Typed, Fits, AllFit, zero-fine, after}
 use Rattle.laws.proofs.Effects.{Brings, brings-map, new, new-is, applied-new}
-use Rattle.laws.proofs.Saving.{record-ok}
-use Rattle.laws.proofs.Loading.{FitsHeld, loaded-settled, loaded-fits, held-record, built-held, built-id, renewed-held, renewed-id}
+use Rattle.laws.proofs.Saving.{record-ok, built-n, renewed-n}
+use Rattle.laws.proofs.Loading.{FitsHeld, loaded-at, loaded-fits, held-record, built-held, built-id, renewed-held, renewed-id}
 use Rattle.laws.proofs.Allowed.{Allowed, id-ok, pending-ok, pending-bit-ok, sound-ok}
 
 -- the settings k in force, the active ID and the store are as the deeds say, where at first sv was saved; and what is in force or held fits its type
@@ -46,6 +48,19 @@ pub empty-ok : (g : Group) → ok g [] ≡ true
 unfolding ok
 empty-ok g = refl
 
+-- what the store holds for N after a change, with this pair pending
+abbrev pub pairAfter : Change → Address → Held Address → Held Address
+pairAfter Keep p n = n
+pairAfter (Write q v) p n = n
+pairAfter (Save gs) p n = n
+pairAfter (TakeOut gs) p n = n
+pairAfter (Load gs id) p n = n
+pairAfter SavePending p n = kept p
+
+-- the pair in a record N
+abbrev pairIn : List ℕ → Held Address
+pairIn r = heldIn (λ (x : List ℕ). address (byteAt 0 x) (byteAt 1 x)) r
+
 pair-ok : (s : State) → rules s ≡ true → okN (recordN (s .core .pending)) ≡ true
 unfolding okN soundN
 pair-ok s r = and-both _ _ (pending-ok s r) (pending-bit-ok s r)
@@ -69,7 +84,7 @@ module _ (sv : Saved) (s : State) (st : List ℕ) (ds : List Change) (h : Agrees
   effect-value (TakeOut gs) a q = simp (cond-ap (λ (n : Now). after n (value sv q ds)))
   effect-value (Load gs id) a q =
       let i = within-is 1 127 id (a .0) in
-      simp (loaded-settled q id (read st) (i .0) (i .1), h .helds q, h .held-id, cond-ap (λ (n : Now). after n (value sv q ds)))
+      simp (loaded-at q id (read st) (i .0) (i .1), h .helds q, h .held-id, cond-ap (λ (n : Now). after n (value sv q ds)))
   effect-value SavePending a q = refl
 
   applied-is : (c : Change) → Allowed c s → (q : Parameter)
@@ -116,6 +131,15 @@ module _ (sv : Saved) (s : State) (st : List ℕ) (ds : List Change) (h : Agrees
   held-id-after (Load gs id) a = h .held-id
   held-id-after SavePending a =
       built-id (recordN (s .core .pending)) (λ (g : Group). saved g (read st)) (pair-ok s a) (λ g. read-ok g st) ∙ (unfold heldIdIn in h .held-id)
+
+  pub pair-after : (c : Change) → Allowed c s → heldAddress (read (stored c s st)) ≡ pairAfter c (s .core .pending) (heldAddress (read st))
+  unfolding stored heldAddress readdressed
+  pair-after Keep a = refl
+  pair-after (Write p v) a = refl
+  pair-after (Save gs) a = ap pairIn (renewed-n gs (recordsOf s) st (λ g _. records-ok a g))
+  pair-after (TakeOut gs) a = ap pairIn (renewed-n gs (λ (g : Group). []) st (λ g _. empty-ok g))
+  pair-after (Load gs id) a = refl
+  pair-after SavePending a = ap pairIn (built-n (recordN (s .core .pending)) (λ (g : Group). saved g (read st)) (pair-ok s a) (λ g. read-ok g st))
 
   fits-held-after : (c : Change) → Allowed c s → (q : Parameter) → FitsHeld q (held sv q (c ∷ ds))
   unfolding held value

@@ -28,11 +28,11 @@ use Rattle.model.specs.declared.Frame.{Frame}
 use Rattle.model.specs.declared.Identity.{Identity}
 use Rattle.model.specs.declared.Settings.{Settings}
 use Rattle.model.specs.declared.State.{State}
-use Rattle.model.specs.Bytes.{le, within}
+use Rattle.model.specs.Bytes.{lowBytes, within}
 use Rattle.model.specs.Reading.{pvOf, integerOf}
 use Rattle.model.specs.Frames.{frame, when, sdoReplies, heartbeats, tpdos, emcys}
 use Rattle.model.specs.Settings.{inForce, rows, inRanges}
-use Rattle.model.specs.Validity.{signs, valid, marked, honest, sound}
+use Rattle.model.specs.Validity.{signs, valid, vouched, honest, sound}
 use Rattle.model.specs.Store.{read, addressFrom}
 use Rattle.model.specs.Parts.{idOf, isOperational, isPreOperational, capped}
 use Rattle.model.specs.Dictionary.{find}
@@ -45,6 +45,7 @@ use Rattle.model.specs.Lss.{answered, lssReply}
 use Rattle.model.specs.Rules.{rules}
 use Rattle.model.specs.Step.{done, refusal, powerOnRefusal, changeOf, reply, booted, heard, coreAfter, changed, reports, served, step, unborn, powerOn}
 use Rattle.model.specs.Run.{Call, Line, sentIn, World, begun, continued}
+use Rattle.model.specs.Pairs.{safety, bitsOf, Pair, Safe, none, other, pair}
 use Rattle.laws.proofs.Ids.{read-id, write-id, segment-id}
 use Rattle.laws.proofs.Tests.{cond-case, and-l, and-r, and-false, implies, within-is}
 use Rattle.laws.proofs.Loading.{address-ok}
@@ -53,15 +54,7 @@ use Rattle.laws.proofs.Deeds.{served-id-most}
 use Rattle.laws.proofs.CoreRules.{start-ok}
 use Rattle.laws.proofs.RulesKept.{unborn-rules, begun-rules, continued-rules}
 
--- ---- what a pair is
-
--- the CAN-IDs of safety frames
-abbrev pub safety : Frame → Bool
-safety f = within 0x101 0x180 (f .id)
-
--- the bits of PV, of settings and FV
-abbrev pub bitsOf : Settings → Fv → ℕ
-bitsOf k fv = toBits binary32 (pvOf (k .application .scaling) fv .0)
+-- ---- the bits of PV
 
 -- they are 32, so that taking them from FFFFFFFFh inverts each
 pub bits-fit : (k : Settings) (fv : Fv) → bitsOf k fv < 2 ^ 32
@@ -70,23 +63,6 @@ bits-fit k fv = toBits-lt binary32 _ (add-fits binary32 _ _)
 
 pub inverse-of : (k : Settings) (fv : Fv) → bitsOf k fv + (0xffffffff - bitsOf k fv) ≡ 0xffffffff
 inverse-of k fv = let h : bitsOf k fv < 2 ^ 32 = bits-fit k fv in omega arith
-
--- frames a and b are a pair in the answer to v, with the settings k and FV in force: v is a tick; a carries the bits of PV on 1301h:5, and b
--- their inverse on 1301h:6; both signatures are the CRCs of the values in force; the second COB-ID follows the first; and the reading is not
--- capped (as that of an infinity or a NaN would be)
-pub record Pair (v : Service) (k : Settings) (fv : Fv) (a b : Frame) : Type 0 where
-  pub in-tick : v ≡ Tick
-  pub first : a ≡ frame (k .communication .srdo .first) (le 4 (bitsOf k fv))
-  pub second : b ≡ frame (k .communication .srdo .second) (le 4 (0xffffffff - bitsOf k fv))
-  pub signed : (g : Group) → signs g (inForce k) ≡ true
-  pub follows : k .communication .srdo .second ≡ k .communication .srdo .first + 1
-  pub not-capped : integerOf (pvOf (k .application .scaling) fv) (k .application .digits) .capped ≡ false
-
--- in these frames each that has such a CAN-ID stands in a pair
-pub data Safe (v : Service) (k : Settings) (fv : Fv) : List Frame → Type 0 where
-  none : Safe v k fv []
-  other : {a : Frame} {fs : List Frame} → safety a ≡ false → Safe v k fv fs → Safe v k fv (a ∷ fs)
-  pair : {a b : Frame} {fs : List Frame} → Pair v k fv a b → Safe v k fv fs → Safe v k fv (a ∷ b ∷ fs)
 
 -- ---- frames with other CAN-IDs
 
@@ -158,14 +134,14 @@ due-valid s r d g = go g
     honestly : (h : Group) → honest h (inForce (s .settings)) ≡ true
     honestly h = and-r (inRanges (rows h) (inForce (s .settings))) (honest h (inForce (s .settings))) (sound-ok s r h)
 
-    mark-c : marked C (inForce (s .settings)) ≡ true
-    mark-c =
+    vouched-c : vouched C (inForce (s .settings)) ≡ true
+    vouched-c =
         rw (eqb-true (communication s .srdo .direction) 1 on)
-        at (and-r (marked A (inForce (s .settings))) (eqb (communication s .srdo .direction) 0 || marked C (inForce (s .settings))) obeyed)
+        at (and-r (vouched A (inForce (s .settings))) (eqb (communication s .srdo .direction) 0 || vouched C (inForce (s .settings))) obeyed)
 
     go : (h : Group) → valid h (inForce (s .settings)) ≡ true
-    go C = implies (marked C (inForce (s .settings))) _ mark-c (honestly C)
-    go A = implies (marked A (inForce (s .settings))) _ (and-l (marked A (inForce (s .settings))) _ obeyed) (honestly A)
+    go C = implies (vouched C (inForce (s .settings))) _ vouched-c (honestly C)
+    go A = implies (vouched A (inForce (s .settings))) _ (and-l (vouched A (inForce (s .settings))) _ obeyed) (honestly A)
 
 signs-of : (g : Group) (s : State) → valid g (inForce (s .settings)) ≡ true → signs g (inForce (s .settings)) ≡ true
 unfolding valid

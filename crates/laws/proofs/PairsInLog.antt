@@ -6,7 +6,6 @@ use mathlib.Core.List.{List, [], _∷_}
 use Prim.Native.Nat.{ℕ}
 use lib.Dec.{eqb}
 use lib.ListN.{length}
-use borrow.Author.Tests.{eqb-true}
 use Rattle.model.specs.declared.Parameter.{Parameter}
 use Rattle.model.specs.declared.Group.the-variants.{C, A}
 use Rattle.model.specs.declared.Groups.{Groups}
@@ -23,6 +22,7 @@ use Rattle.model.specs.declared.Identity.{Identity}
 use Rattle.model.specs.declared.Settings.{Settings}
 use Rattle.model.specs.declared.Core.{Core}
 use Rattle.model.specs.declared.State.{State}
+use Rattle.model.specs.Bytes.{Bytes}
 use Rattle.model.specs.Settings.{has, made}
 use Rattle.model.specs.Store.{Saved, read, addressFrom}
 use Rattle.model.specs.Parts.{idOf, isOperational, isPreOperational}
@@ -34,56 +34,12 @@ use Rattle.model.specs.Sdo.{serves}
 use Rattle.model.specs.Rules.{rules}
 use Rattle.model.specs.Step.{done, refusal, powerOnRefusal, changeOf, heard, coreAfter, served, step, unborn, powerOn}
 use Rattle.model.specs.Run.{Call, Line, powered, called, sentIn, World, begun, after, continued, run}
-use Rattle.model.specs.History.{serviceDeed, activeId, deeds, value}
+use Rattle.model.specs.History.{isServed, deeds, value}
+use Rattle.model.specs.Pairs.{Safe, none, zeroFv, sampledIn, fvAfter, fvOf, settingsTold, SafeLog}
 use Rattle.laws.proofs.Tests.{cond-case, hit-case}
-use Rattle.laws.proofs.Bytes.{Bytes}
 use Rattle.laws.proofs.Allowed.{Allowed, change-allowed}
-use Rattle.laws.proofs.History.{Told, refusal-rules, told-deed, told-next, told-begun}
-use Rattle.laws.proofs.Pairs.{Safe, none, step-safe, power-on-safe}
-
--- ---- what the log says of FV
-
-abbrev zeroFv : Fv
-zeroFv = record { 0 = 0 }
-
--- FV after a service
-abbrev pub sampledIn : Service → Fv → Fv
-sampledIn Nothing old = old
-sampledIn Tick old = old
-sampledIn (Sample fv) old = fv
-sampledIn (Nmt command to) old = old
-sampledIn Sync old = old
-sampledIn (Remote to) old = old
-sampledIn (Sdo to r) old = old
-sampledIn (Lss r) old = old
-
--- and after the deed that it did: a load of A sets it to 0
-abbrev pub fvAfter : Change → Service → Fv → Fv
-fvAfter Keep v old = sampledIn v old
-fvAfter (Write p x) v old = sampledIn v old
-fvAfter (Save gs) v old = sampledIn v old
-fvAfter (TakeOut gs) v old = sampledIn v old
-fvAfter (Load gs id) v old = cond (has gs A) zeroFv old
-fvAfter SavePending v old = sampledIn v old
-
--- the last sample since A was last loaded, else 0
-unfoldable pub fvOf : List Line → Fv
-fvOf [] = zeroFv
-fvOf (powered room number sent ∷ ls) = zeroFv
-fvOf (called event room number sent ∷ ls) =
-    cond (eqb number done) (fvAfter (serviceDeed (activeId (deeds ls)) (service event) sent) (service event) (fvOf ls)) (fvOf ls)
-
--- ---- the log
-
--- the service of a line; a power-on has none
-abbrev pub serviceIn : Line → Service
-serviceIn (powered room number sent) = Nothing
-serviceIn (called event room number sent) = service event
-
--- each line, by what the log said when it was written
-abbrev pub SafeLog : Saved → List Line → Type 0
-SafeLog sv [] = Unit {0}
-SafeLog sv (l ∷ ls) = Safe (serviceIn l) (made (λ (q : Parameter). value sv q (deeds (l ∷ ls)))) (fvOf (l ∷ ls)) (sentIn l) × SafeLog sv ls
+use Rattle.laws.proofs.History.{Told, told-refusal, told-deed, told-next, told-begun}
+use Rattle.laws.proofs.Pairs.{step-safe, power-on-safe}
 
 -- ---- FV is what the log says
 
@@ -141,14 +97,14 @@ core-fv SavePending v s sv k a = heard-fv v s
 
 record Shown (sv : Saved) (w : World) : Type 0 where
   told : Told sv w
-  fv-is : w .state .core .fv ≡ fvOf (w .log)
+  fv-is : w .state .core .fv ≡ fvOf sv (w .log)
   safe : SafeLog sv (w .log)
 
 -- what is said of the state is said of the log
-by-log : (sv : Saved) (w : World) (v : Service) (fs : List Frame) → Told sv w → w .state .core .fv ≡ fvOf (w .log)
+by-log : (sv : Saved) (w : World) (v : Service) (fs : List Frame) → Told sv w → w .state .core .fv ≡ fvOf sv (w .log)
     → Safe v (w .state .settings) (w .state .core .fv) fs
-    → Safe v (made (λ (q : Parameter). value sv q (deeds (w .log)))) (fvOf (w .log)) fs
-by-log sv w v fs h e k = subst₂ (λ (y : Settings) (x : Fv). Safe v y x fs) (ap made (fun-ext (h .values))) e k
+    → Safe v (settingsTold sv (w .log)) (fvOf sv (w .log)) fs
+by-log sv w v fs h e k = subst₂ (λ (y : Settings) (x : Fv). Safe v y x fs) (ap made (fun-ext (h .agrees .values))) e k
 
 step-fv : (e : List ℕ) (s : State) (st : List ℕ) → rules s ≡ true
     → step e s st .state .core .fv ≡ fvAfter (changeOf (service e) s (read st)) (service e) (s .core .fv)
@@ -157,26 +113,25 @@ step-fv e s st r =
     let c = changeOf (service e) s (read st) in
     core-fv c (service e) s (read st) (applied c (s .settings) (read st)) (change-allowed s st r (service e))
 
-fv-next : (sv : Saved) (c : Call) (w : World) → Told sv w → w .state .core .fv ≡ fvOf (w .log)
-    → continued c w .state .core .fv ≡ fvOf (continued c w .log)
+fv-next : (sv : Saved) (c : Call) (w : World) → Told sv w → w .state .core .fv ≡ fvOf sv (w .log)
+    → continued c w .state .core .fv ≡ fvOf sv (continued c w .log)
 unfolding continued fvOf
 fv-next sv c w h f =
-    cond-case (λ (x : World). x .state .core .fv ≡ fvOf (x .log)) (eqb (refusal (c .event) (w .state) (c .room) (length (w .store))) done)
+    rw (told-refusal sv c w h)
+    (cond-case (λ (x : World). x .state .core .fv ≡ fvOf sv (x .log)) (isServed (c .event) (c .room))
     (λ e.
-    let r = refusal-rules (c .event) (w .state) (c .room) (length (w .store)) (eqb-true _ done e) in
-    rw (told-deed sv (c .event) w r h)
-    (step-fv (c .event) (w .state) (w .store) r ∙ ap (fvAfter (changeOf (service (c .event)) (w .state) (read (w .store))) (service (c .event))) f))
-    (λ e. rw e f)
+    rw (e, told-deed sv (c .event) w h)
+    (step-fv (c .event) (w .state) (w .store) (h .keeps) ∙ ap (fvAfter (changeOf (service (c .event)) (w .state) (read (w .store))) (service (c .event))) f))
+    (λ e. rw e f))
 
 safe-next : (sv : Saved) (c : Call) (w : World) → Shown sv w → Told sv (continued c w)
-    → continued c w .state .core .fv ≡ fvOf (continued c w .log) → SafeLog sv (continued c w .log)
+    → continued c w .state .core .fv ≡ fvOf sv (continued c w .log) → SafeLog sv (continued c w .log)
 unfolding continued
 safe-next sv c w h =
-    cond-case (λ (x : World). Told sv x → x .state .core .fv ≡ fvOf (x .log) → SafeLog sv (x .log)) (eqb (refusal (c .event) (w .state) (c .room) (length (w .store))) done)
-    (λ e told fv.
-    let r = refusal-rules (c .event) (w .state) (c .room) (length (w .store)) (eqb-true _ done e) in (
+    cond-case (λ (x : World). Told sv x → x .state .core .fv ≡ fvOf sv (x .log) → SafeLog sv (x .log)) (eqb (refusal (c .event) (w .state) (c .room) (length (w .store))) done)
+    (λ e told fv. (
       by-log sv (after c (step (c .event) (w .state) (w .store)) (w .log)) (service (c .event)) (step (c .event) (w .state) (w .store) .sent) told fv
-          (step-safe (c .event) (w .state) (w .store) r),
+          (step-safe (c .event) (w .state) (w .store) (h .told .keeps)),
       h .safe,
     ))
     (λ e told fv. (none, h .safe))
@@ -188,17 +143,17 @@ shown-next sv c w h =
     record { told = t; fv-is = f; safe = safe-next sv c w h t f }
 
 shown-run : (sv : Saved) (cs : List Call) (w : World) → Shown sv w → Shown sv (run cs w)
-unfolding run
+unfolding run continued
 shown-run sv [] w h = h
 shown-run sv (c ∷ cs) w h = shown-run sv cs (continued c w) (shown-next sv c w h)
 
 begun-fv : (i : Identity) (room : ℕ) (st : List ℕ) → powerOnRefusal room (length st) ≡ done
-    → begun i room st .state .core .fv ≡ fvOf (begun i room st .log)
+    → begun i room st .state .core .fv ≡ fvOf (read st) (begun i room st .log)
 unfolding begun fvOf powerOn
 begun-fv i room st e = rw e (unfold served coreAfter in reset-fv Both (addressFrom (read st) .id) (read st) _ (unborn i .core) refl)
 
 begun-log : (i : Identity) (room : ℕ) (st : List ℕ) → powerOnRefusal room (length st) ≡ done
-    → Told (read st) (begun i room st) → begun i room st .state .core .fv ≡ fvOf (begun i room st .log)
+    → Told (read st) (begun i room st) → begun i room st .state .core .fv ≡ fvOf (read st) (begun i room st .log)
     → SafeLog (read st) (begun i room st .log)
 unfolding begun
 begun-log i room st e =

@@ -24,7 +24,7 @@ use Rattle.model.specs.declared.State.{State}
 use Rattle.model.specs.Choice.{firstHit}
 use Rattle.model.specs.Values.{numberOf}
 use Rattle.model.specs.Settings.{row, rows, same, among, has, inForce, inRanges, Now, stays}
-use Rattle.model.specs.Validity.{covered, signatureOf, validityOf, honest, sound, unmarks, changes}
+use Rattle.model.specs.Validity.{covered, signatureOf, validityOf, honest, sound, revokes, changes}
 use Rattle.model.specs.Store.{Saved, read, addressFrom}
 use Rattle.model.specs.Changes.{effect, applied}
 use Rattle.model.specs.Parts.{idOf, isStopped, isOperational, isPreOperational, capped}
@@ -32,7 +32,7 @@ use Rattle.model.specs.Service.{service}
 use Rattle.model.specs.Time.{communication, timerOf, restart, ticked, differ, emcyDue}
 use Rattle.model.specs.Nmt.{isFor, startObeyed, nmtChange, resetAsked}
 use Rattle.model.specs.Sdo.{serves}
-use Rattle.model.specs.Rules.{rules, ruleIds, ruleBits, ruleNmt, ruleRanges, ruleMarks, ruleStart, ruleReported, ruleLss, ruleSync, ruleUpload}
+use Rattle.model.specs.Rules.{rules, ruleIds, ruleBits, ruleNmt, ruleRanges, ruleHonest, ruleStart, ruleReported, ruleLss, ruleSync, ruleUpload}
 use Rattle.model.specs.Step.{done, brokenState, refusal, powerOnRefusal, changeOf, heard, coreAfter, changed, reports, reportedAfter, served, step, unborn, powerOn, zeroStore}
 use Rattle.model.specs.Run.{Call, World, begun, continued, run}
 use Rattle.model.proofs.Everything.{everything}
@@ -44,11 +44,11 @@ use Rattle.laws.proofs.Sound.{applied-is, sound-after}
 use Rattle.laws.proofs.CoreRules.{CoreOk, core-ok, CountOk, start-ok, sync-ok, zero-sync, heard-core, heard-start, heard-sync, restart-core, restart-nmt, restart-sync, reset-core, reset-start, reset-sync}
 use Rattle.laws.proofs.Count.{flag-right}
 
--- ---- a write of an entry that is not marked leaves the marked ones, and so Start
+-- ---- a write of an entry without a star leaves the starred ones, and so Start
 
-unmarks-star : (p q : Parameter) → unmarks p q ≡ true → row p .star ≡ true
-unfolding unmarks
-unmarks-star p q h =
+revokes-star : (p q : Parameter) → revokes p q ≡ true → row p .star ≡ true
+unfolding revokes
+revokes-star p q h =
     implies (among (covered (row p .group)) p || same p (signatureOf (row p .group))) _ (and-r (same q (validityOf (row p .group))) _ h)
     (by-table (λ (x : Parameter). not (among (covered (row x .group)) x || same x (signatureOf (row x .group))) || row x .star) refl p)
 
@@ -57,8 +57,8 @@ free-stays : (p q : Parameter) (v : Value) (k : Settings) (sv : Saved) → row p
 unfolding effect
 free-stays p q v k sv a b =
     cond-case (λ (n : Now). n ≡ stays) (same q p) (λ e. absurd (false≢true (sym a ∙ ap (λ (x : Parameter). row x .star) (sym (same-eq q p e)) ∙ b)))
-    (λ _. cond-case (λ (n : Now). n ≡ stays) (unmarks p q && changes p v (inForce k))
-    (λ e. absurd (false≢true (sym a ∙ unmarks-star p q (and-l _ (changes p v (inForce k)) e)))) (λ _. refl))
+    (λ _. cond-case (λ (n : Now). n ≡ stays) (revokes p q && changes p v (inForce k))
+    (λ e. absurd (false≢true (sym a ∙ revokes-star p q (and-l _ (changes p v (inForce k)) e)))) (λ _. refl))
 
 -- Start looks at three values
 start-by : (k m : Settings) → inForce k P51FE ≡ inForce m P51FE → inForce k P1301s1 ≡ inForce m P1301s1 → inForce k P13FE ≡ inForce m P13FE
@@ -153,9 +153,9 @@ module _ (s : State) (st : List ℕ) (r : rules s ≡ true) where
   old-sync : (v : Service) → Apart v s → CountOk (communication s .tpdo .kind) (heard v s)
   old-sync v b = rw (b .1) (sync-ok s r)
 
-  no-mark : (g : Group) → same P1800s2 (validityOf g) ≡ false
-  no-mark C = refl
-  no-mark A = refl
+  no-vouch : (g : Group) → same P1800s2 (validityOf g) ≡ false
+  no-vouch C = refl
+  no-vouch A = refl
 
   write-sync : (p : Parameter) (x : Value) (v : Service) → Apart v s
       → CountOk (applied (Write p x) (s .settings) (read st) .communication .tpdo .kind) (restart (timerOf p) (heard v s))
@@ -166,7 +166,7 @@ module _ (s : State) (st : List ℕ) (r : rules s ≡ true) where
       go true e =
           subst (λ (q : Parameter). CountOk (applied (Write q x) (s .settings) (read st) .communication .tpdo .kind) (restart (timerOf q) (heard v s))) (same-eq P1800s2 p e)
           (unfold timerOf firstHit in zero-sync (applied (Write P1800s2 x) (s .settings) (read st) .communication .tpdo .kind))
-      go false e = unfold applied effect unmarks in rw (e, no-mark (row p .group)) (restart-sync (timerOf p) (communication s .tpdo .kind) (heard v s) (old-sync v b))
+      go false e = unfold applied effect revokes in rw (e, no-vouch (row p .group)) (restart-sync (timerOf p) (communication s .tpdo .kind) (heard v s) (old-sync v b))
 
   sync-after : (c : Change) (v : Service) → Allowed c s → Beside v s c
       → CountOk (applied c (s .settings) (read st) .communication .tpdo .kind) (coreAfter c v s (read st) (applied c (s .settings) (read st)))
@@ -211,7 +211,7 @@ flag-after (Lss q) s st r = told-flag _ (Lss q) s st refl
 
 served-rules : (c : Change) (v : Service) (s : State) (st : List ℕ) → rules s ≡ true → Allowed c s → Beside v s c
     → ruleReported (served c v s st .state) ≡ true → rules (served c v s st .state) ≡ true
-unfolding rules ruleIds ruleBits ruleNmt ruleRanges ruleMarks ruleStart ruleLss ruleSync ruleUpload served sound
+unfolding rules ruleIds ruleBits ruleNmt ruleRanges ruleHonest ruleStart ruleLss ruleSync ruleUpload served sound
 served-rules c v s st r a b f =
     let k = applied c (s .settings) (read st) in
     let o = core-after s st r c v a k in
@@ -265,7 +265,7 @@ continued-rules c w r =
     (λ _. step-rules (c .event) (w .state) (w .store) r) (λ _. r)
 
 pub run-rules : (cs : List Call) (w : World) → rules (w .state) ≡ true → rules (run cs w .state) ≡ true
-unfolding run
+unfolding run continued
 run-rules [] w r = r
 run-rules (c ∷ cs) w r = run-rules cs (continued c w) (continued-rules c w r)
 

@@ -13,12 +13,12 @@ use Rattle.model.specs.declared.Group.{Group}
 use Rattle.model.specs.declared.Group.the-variants.{C, A}
 use Rattle.model.specs.declared.Groups.{Groups}
 use Rattle.model.specs.declared.Settings.{Settings}
-use Rattle.model.specs.Bytes.{unle, part, byteAt}
+use Rattle.model.specs.Bytes.{asNumber, part, byteAt}
 use Rattle.model.specs.Values.{widthOf, kindOf, numberOf, typed, encoded}
 use Rattle.model.specs.Settings.{row, rows, same, among, sameGroup, has, inForce, bytesOf, judge, isInside, inRanges}
 use Rattle.model.specs.Validity.{signs, valid, sound}
 use Rattle.model.specs.Store.{recordOf, sizeOfRecord, rowsAt, placeFrom, placeOf, field, nodeId, soundRecord, okN, ok, build, Saved, read, savedN, saved, orElse, defaultFor, groupFrom, followsId, loaded, renewedRecord, renewed}
-use Rattle.wire.proofs.Numbers.{length-le, unle-le}
+use Rattle.model.proofs.Numbers.{length-low, number-low}
 use Rattle.laws.proofs.Tests.{cond-case, and-both, implies}
 use Rattle.laws.proofs.Bytes.{part-mid}
 use Rattle.laws.proofs.Values.{Holds, typed-number, number-small}
@@ -29,7 +29,7 @@ use Rattle.laws.proofs.Parameters.{same-eq, by-table, group-eq, in-rows
 
 -- the bytes of a value are as many as its parameter's type has
 length-encoded : (p : Parameter) (v : Value) → kindOf v ≡ row p .kind → length (encoded v) ≡ widthOf (row p .kind)
-length-encoded p v e = length-le (widthOf (kindOf v)) (numberOf v) ∙ ap widthOf e
+length-encoded p v e = length-low (widthOf (kindOf v)) (numberOf v) ∙ ap widthOf e
 
 -- where rows stand one after the other, each is found in its place
 found : (before : List ℕ) (at : ℕ) (ps : List Parameter) (f : Parameter → Value) (p : Parameter) → length before ≡ at → AllFit f
@@ -51,15 +51,15 @@ found before at (q ∷ qs) f p e h m =
     go false d m further = further m
 
 -- the value comes back from its bytes
-value-back : (p : Parameter) (v : Value) → Fits p v → typed (row p .kind) (unle (encoded v)) ≡ v
+value-back : (p : Parameter) (v : Value) → Fits p v → typed (row p .kind) (asNumber (encoded v)) ≡ v
 value-back p v h =
-    ap (typed (row p .kind)) (unle-le (widthOf (kindOf v)) (numberOf v) (number-small v (h .holds)))
+    ap (typed (row p .kind)) (number-low (widthOf (kindOf v)) (numberOf v) (number-small v (h .holds)))
     ∙ subst (λ k. typed k (numberOf v) ≡ v) (h .kind) (typed-number v (h .holds))
 
 -- THE THEOREM, for a record: each parameter is read back from the record that was made of the values
 pub field-record : (p : Parameter) (id : ℕ) (f : Parameter → Value) → AllFit f → field (recordOf (row p .group) id f) p ≡ f p
 unfolding field placeOf
-field-record p id f h = ap (λ (l : List ℕ). typed (row p .kind) (unle l)) (go (row p .group) (in-rows p)) ∙ value-back p (f p) (h p)
+field-record p id f h = ap (λ (l : List ℕ). typed (row p .kind) (asNumber l)) (go (row p .group) (in-rows p)) ∙ value-back p (f p) (h p)
   where
     go : (g : Group) → among (rows g) p ≡ true
         → part (placeFrom (rowsAt g) (rows g) p) (widthOf (row p .kind)) (recordOf g id f) ≡ encoded (f p)
@@ -158,6 +158,15 @@ pub renewed-saved : (gs : Groups) (r : Group → List ℕ) (st : List ℕ) → (
     → (g : Group) → saved g (read (renewed gs r (read st))) ≡ renewedRecord gs r (read st) g
 unfolding renewed
 renewed-saved gs r st h g = built-saved (savedN (read st)) (renewedRecord gs r (read st)) (read-n st) (renewed-ok gs r st h) g
+
+-- N comes back too, and is kept where groups are written
+pub built-n : (n : List ℕ) (r : Group → List ℕ) → okN n ≡ true → ((g : Group) → ok g (r g) ≡ true) → savedN (read (build n (r C) (r A))) ≡ n
+built-n n r a h = ap savedN (read-build n (r C) (r A) (record { n-ok = a; c-ok = h C; a-ok = h A }))
+
+pub renewed-n : (gs : Groups) (r : Group → List ℕ) (st : List ℕ) → ((g : Group) → has gs g ≡ true → ok g (r g) ≡ true)
+    → savedN (read (renewed gs r (read st))) ≡ savedN (read st)
+unfolding renewed
+renewed-n gs r st h = built-n (savedN (read st)) (renewedRecord gs r (read st)) (read-n st) (renewed-ok gs r st h)
 
 -- ---- a load
 

@@ -17,10 +17,10 @@ use Rattle.model.specs.declared.State.{State}
 use Rattle.model.specs.Bytes.{byteAt}
 use Rattle.model.specs.Values.{kindOf, numberOf, encoded}
 use Rattle.model.specs.Settings.{row, rows, same, among, has, bytesOf, inForce, stays, becomes, judge, isInside, inRanges}
-use Rattle.model.specs.Validity.{covered, signatureOf, validityOf, signs, valid, A5h, honest, sound, unmarks, changes}
+use Rattle.model.specs.Validity.{covered, signatureOf, validityOf, signs, valid, A5h, honest, sound, revokes, changes}
 use Rattle.model.specs.Store.{field, nodeId, ok, Saved, read, saved, defaultFor, groupFrom, followsId, loaded}
-use Rattle.model.specs.Changes.{unmarked, effect, applied}
-use Rattle.model.specs.Sdo.{falseMark}
+use Rattle.model.specs.Changes.{revoked, effect, applied}
+use Rattle.model.specs.Sdo.{unearned}
 use Rattle.model.specs.Rules.{rules}
 use Rattle.laws.proofs.Tests.{cond-case, and-l, and-r, and-both, and-false, implies, within-is}
 use Rattle.laws.proofs.Values.{typed-kind}
@@ -42,10 +42,10 @@ alike-bytes v w h = rw (h .number, h .kind) refl
 
 -- q is covered by g's signature, or is that signature
 abbrev Under : Group → Parameter → Type 0
-Under g q = unmarks q (validityOf g) ≡ true
+Under g q = revokes q (validityOf g) ≡ true
 
 valid-by : (g : Group) (f h : Parameter → Value) → ((q : Parameter) → Under g q → Alike (f q) (h q)) → valid g f ≡ valid g h
-unfolding valid signs bytesOf unmarks
+unfolding valid signs bytesOf revokes
 valid-by C f h e =
     rw (
       alike-bytes _ _ (e P1301s1 refl),
@@ -62,7 +62,7 @@ valid-by A f h e =
 
 -- what is under a signature is no validity byte
 under-other : (g h : Group) (q : Parameter) → Under g q → same q (validityOf h) ≡ false
-unfolding unmarks
+unfolding revokes
 under-other g h q u = not-true _ (implies (among (covered (row q .group)) q || same q (signatureOf (row q .group))) _ (and-r (same (validityOf g) (validityOf (row q .group))) _ u) (told h))
   where
     told : (h : Group) → not (among (covered (row q .group)) q || same q (signatureOf (row q .group))) || not (same q (validityOf h)) ≡ true
@@ -70,8 +70,8 @@ under-other g h q u = not-true _ (implies (among (covered (row q .group)) q || s
     told A = by-table (λ (x : Parameter). not (among (covered (row x .group)) x || same x (signatureOf (row x .group))) || not (same x (validityOf A))) refl q
 
 -- so nothing forces it to 0
-under-stays : (g : Group) (p q : Parameter) → Under g q → unmarks p q ≡ false
-under-stays g p q u = unfold unmarks in rw (under-other g (row p .group) q u) refl
+under-stays : (g : Group) (p q : Parameter) → Under g q → revokes p q ≡ false
+under-stays g p q u = unfold revokes in rw (under-other g (row p .group) q u) refl
 
 honest-by : (g : Group) (f h : Parameter → Value) → numberOf (f (validityOf g)) ≡ numberOf (h (validityOf g)) → valid g f ≡ valid g h
     → honest g f ≡ honest g h
@@ -82,39 +82,39 @@ same-alike v = record { number = refl; kind = refl }
 
 -- ---- each change
 
-mark-honest : (m b : Bool) → m && not b ≡ false → not m || b ≡ true
-mark-honest true true h = refl
-mark-honest true false h = sym h
-mark-honest false b h = refl
+vouched-honest : (m b : Bool) → m && not b ≡ false → not m || b ≡ true
+vouched-honest true true h = refl
+vouched-honest true false h = sym h
+vouched-honest false b h = refl
 
 module _ (s : State) (sv : Saved) where
   -- a validity byte is written
-  mark-write : (g : Group) (v : Value) → falseMark (validityOf g) v s ≡ false
+  unearned-write : (g : Group) (v : Value) → unearned (validityOf g) v s ≡ false
       → honest g (new (Write (validityOf g) v) (s .settings) sv) ≡ true
-  unfolding falseMark effect
-  mark-write g v h = go g h
+  unfolding unearned effect
+  unearned-write g v h = go g h
     where
       rest : (g : Group) (q : Parameter) → row (validityOf g) .group ≡ g → Under g q
           → new (Write (validityOf g) v) (s .settings) sv q ≡ inForce (s .settings) q
       rest g q e u = rw (under-other g g q u, under-stays g (validityOf g) q u) refl
 
-      go : (g : Group) → falseMark (validityOf g) v s ≡ false → honest g (new (Write (validityOf g) v) (s .settings) sv) ≡ true
+      go : (g : Group) → unearned (validityOf g) v s ≡ false → honest g (new (Write (validityOf g) v) (s .settings) sv) ≡ true
       go C h =
           rw (valid-by C (new (Write P13FE v) (s .settings) sv) (inForce (s .settings)) (λ q u. rw (rest C q refl u) (same-alike _)))
-          (mark-honest (eqb (numberOf v) A5h) (valid C (inForce (s .settings))) h)
+          (vouched-honest (eqb (numberOf v) A5h) (valid C (inForce (s .settings))) h)
       go A h =
           rw (valid-by A (new (Write P51FE v) (s .settings) sv) (inForce (s .settings)) (λ q u. rw (rest A q refl u) (same-alike _)))
-          (mark-honest (eqb (numberOf v) A5h) (valid A (inForce (s .settings))) h)
+          (vouched-honest (eqb (numberOf v) A5h) (valid A (inForce (s .settings))) h)
 
   -- another parameter is written: where that is a change of what is signed, the byte goes to 0
   write-alike : (p q : Parameter) (v : Value) (g : Group) → kindOf v ≡ kindOf (inForce (s .settings) p)
-      → unmarks p (validityOf g) && changes p v (inForce (s .settings)) ≡ false → Under g q
+      → revokes p (validityOf g) && changes p v (inForce (s .settings)) ≡ false → Under g q
       → Alike (new (Write p v) (s .settings) sv q) (inForce (s .settings) q)
   unfolding effect
   write-alike p q v g k t u = go (same q p) refl
     where
       go : (b : Bool) → same q p ≡ b
-          → Alike (after (cond b (becomes v) (cond (unmarks p q && changes p v (inForce (s .settings))) unmarked stays)) (inForce (s .settings) q)) (inForce (s .settings) q)
+          → Alike (after (cond b (becomes v) (cond (revokes p q && changes p v (inForce (s .settings))) revoked stays)) (inForce (s .settings) q)) (inForce (s .settings) q)
       go true e =
           let d : q ≡ p = same-eq q p e in
           subst (λ (x : Parameter). Alike v (inForce (s .settings) x)) (sym d)
@@ -124,15 +124,15 @@ module _ (s : State) (sv : Saved) where
           })
       go false e = rw (under-stays g p q u) (same-alike _)
 
-  write-honest : (p : Parameter) (v : Value) → kindOf v ≡ kindOf (inForce (s .settings) p) → falseMark p v s ≡ false
+  write-honest : (p : Parameter) (v : Value) → kindOf v ≡ kindOf (inForce (s .settings) p) → unearned p v s ≡ false
       → (g : Group) → honest g (inForce (s .settings)) ≡ true → honest g (new (Write p v) (s .settings) sv) ≡ true
-  write-honest p v k f g h = go (same (validityOf g) p) refl (unmarks p (validityOf g) && changes p v (inForce (s .settings))) refl
+  write-honest p v k f g h = go (same (validityOf g) p) refl (revokes p (validityOf g) && changes p v (inForce (s .settings))) refl
     where
-      go : (a : Bool) → same (validityOf g) p ≡ a → (b : Bool) → unmarks p (validityOf g) && changes p v (inForce (s .settings)) ≡ b
+      go : (a : Bool) → same (validityOf g) p ≡ a → (b : Bool) → revokes p (validityOf g) && changes p v (inForce (s .settings)) ≡ b
           → honest g (new (Write p v) (s .settings) sv) ≡ true
       go true e b t =
           subst (λ (x : Parameter). honest g (new (Write x v) (s .settings) sv) ≡ true) (same-eq (validityOf g) p e)
-          (mark-write g v (subst (λ (x : Parameter). falseMark x v s ≡ false) (sym (same-eq (validityOf g) p e)) f))
+          (unearned-write g v (subst (λ (x : Parameter). unearned x v s ≡ false) (sym (same-eq (validityOf g) p e)) f))
       go false e true t = unfold effect in rw (e, t) refl
       go false e false t =
           honest-by g (new (Write p v) (s .settings) sv) (inForce (s .settings)) (unfold effect in rw (e, t) refl)

@@ -63,22 +63,22 @@ store-size e s st h = stored-size (changeOf (service e) s (read st)) s st h
 
 -- ---- runs
 
-continued-size : (c : Call) (w : World) → length (w .store) ≡ storeSize → length (continued c w .store) ≡ storeSize
+pub continued-size : (c : Call) (w : World) → length (w .store) ≡ storeSize → length (continued c w .store) ≡ storeSize
 unfolding continued
 continued-size c w h =
     cond-case (λ (x : World). length (x .store) ≡ storeSize) (eqb (refusal (c .event) (w .state) (c .room) (length (w .store))) done)
     (λ _. store-size (c .event) (w .state) (w .store) h) (λ _. h)
 
 run-size : (cs : List Call) (w : World) → length (w .store) ≡ storeSize → length (run cs w .store) ≡ storeSize
-unfolding run
+unfolding run continued
 run-size [] w h = h
 run-size (c ∷ cs) w h = run-size cs (continued c w) (continued-size c w h)
 
-begun-store : (i : Identity) (room : ℕ) (st : List ℕ) → begun i room st .store ≡ st
+pub begun-store : (i : Identity) (room : ℕ) (st : List ℕ) → begun i room st .store ≡ st
 unfolding begun powerOn served stored
 begun-store i room st = cond-case (λ (w : World). w .store ≡ st) (eqb (powerOnRefusal room (length st)) done) (λ _. refl) (λ _. refl)
 
-accepted-size : (room size : ℕ) → powerOnRefusal room size ≡ done → size ≡ storeSize
+pub accepted-size : (room size : ℕ) → powerOnRefusal room size ≡ done → size ≡ storeSize
 unfolding powerOnRefusal
 accepted-size room size e = let n = hit-zero _ refl e in eqb-true size storeSize (not-false _ (n .1 .0))
 

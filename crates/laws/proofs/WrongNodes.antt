@@ -1,100 +1,66 @@
--- Wrong nodes, and the run in which each parts from what the theorems say. Each is the node of the model with one thing wrong; what it then has in
--- force is set against what its own log tells (History), or what it sends against what a safety pair needs (Pairs). Computed. Assumes nothing.
+-- No wrong node meets the third demand: for each, the run in which it parts from that. What it then has in force is set against what its own log tells,
+-- or what it sends against what a safety pair needs. The runs are computed. Assumes nothing.
 use Prim.Native.Nat.{ℕ}
-use mathlib.Core.Path.{_≡_, refl}
-use mathlib.Core.Bool.{Bool, true, false, cond}
+use mathlib.Core.Path.{_≡_, refl, sym, ap, _∙_}
+use mathlib.Core.Bool.{Bool, true, false, _&&_, false≢true}
 use mathlib.Core.List.{List, [], _∷_}
-use lib.Dec.{eqb}
+use lib.Dec.{eqb, ltb}
 use lib.ListN.{length}
+use borrow.Author.Tests.{eqb-false, ltb-true}
 use Rattle.model.specs.declared.Value.{Value}
 use Rattle.model.specs.declared.Value.the-variants.{U8, U16, U32}
 use Rattle.model.specs.declared.Parameter.{Parameter}
 use Rattle.model.specs.declared.Parameter.the-variants.{P1017, P1301s5, P51FE}
 use Rattle.model.specs.declared.Group.the-variants.{A}
-use Rattle.model.specs.declared.Change.{Change}
-use Rattle.model.specs.declared.Change.the-variants.{Keep, Write, Save, TakeOut, Load, SavePending}
+use Rattle.model.specs.declared.Service.{Service}
+use Rattle.model.specs.declared.Fv.{Fv}
 use Rattle.model.specs.declared.Frame.{Frame}
 use Rattle.model.specs.declared.Settings.{Settings}
-use Rattle.model.specs.declared.State.{State}
-use Rattle.model.specs.Frames.{kindOfEvent}
-use Rattle.model.specs.Settings.{same, inForce, stays, becomes, altered}
+use Rattle.model.specs.Bytes.{Bytes}
+use Rattle.model.specs.Values.{numberOf}
+use Rattle.model.specs.Settings.{inForce}
 use Rattle.model.specs.Validity.{signs}
-use Rattle.model.specs.Store.{read, isGood}
-use Rattle.model.specs.Parts.{state}
-use Rattle.model.specs.Time.{srdoFirst, srdoSecond}
-use Rattle.model.specs.Service.{service}
-use Rattle.model.specs.Step.{Outcome, step, refusal, done, outputSize, zeroStore, changeOf}
-use Rattle.model.specs.Run.{Call, Line, called, sentIn, World, after, begun}
+use Rattle.model.specs.Store.{recordN, build, read}
+use Rattle.model.specs.Parts.{address}
+use Rattle.model.specs.Step.{step, done, powerOnRefusal, outputSize, zeroStore}
+use Rattle.model.specs.Run.{World, Node, begunBy, runBy}
 use Rattle.model.specs.History.{deeds, value}
+use Rattle.model.specs.Pairs.{safety, Safe, other, pair}
+use Rattle.model.specs.Demands.{Meets}
 use Rattle.model.proofs.Everything.{everything}
-use Rattle.model.proofs.Replay.{writes, commands, aTick, identity, calls}
+use Rattle.model.proofs.Replay.{writes, commands, lss, aTick, identity, calls}
+use Rattle.laws.specs.Nodes.{serving, savesOnce, idles, startsBlindly, keepsValidity, keepsAtReset, refusesResets, keepsItsId, alwaysPairs}
+use Rattle.laws.proofs.Tests.{and-l, and-r}
 
--- ---- Runs of another node
+-- ---- How a node is found out
 
--- what an accepted event comes to
-abbrev pub Node : Type 0
-Node = List ℕ → State → List ℕ → Outcome
+-- the world after a power-on on a store and then some events
+abbrev pub worldOn : Node → List ℕ → List (List ℕ) → World
+worldOn node st es = runBy node (calls es) (begunBy node (identity 0 0 0 0) outputSize st)
 
--- some calls to it, as `run` has them
-abbrev pub runBy : Node → List Call → World → World
-runBy node [] w = w
-runBy node (c ∷ cs) w =
-    runBy node cs
-    (cond (eqb (refusal (c .event) (w .state) (c .room) (length (w .store))) done) (after c (node (c .event) (w .state) (w .store)) (w .log))
-    (record { state = w .state; store = w .store; log = called (c .event) (c .room) (refusal (c .event) (w .state) (c .room) (length (w .store))) [] ∷ w .log }))
+-- whether a list is one of bytes
+abbrev allBytes : List ℕ → Bool
+allBytes [] = true
+allBytes (b ∷ bs) = ltb b 256 && allBytes bs
 
--- from a power-on on 64 zero bytes
-abbrev pub world : Node → List (List ℕ) → World
-world node es = runBy node (calls es) (begun (identity 0 0 0 0) outputSize zeroStore)
+bytes-are : (l : List ℕ) → allBytes l ≡ true → Bytes l
+bytes-are [] h = tt
+bytes-are (b ∷ bs) h = (ltb-true b 256 (and-l (ltb b 256) (allBytes bs) h), bytes-are bs (and-r (ltb b 256) (allBytes bs) h))
 
--- the value that it has in force, and the one that its log tells
-abbrev pub has : Node → List (List ℕ) → Parameter → Value
-has node es q = inForce (world node es .state .settings) q
+-- it has the value x in force for q, and its log tells y
+found-out : (node : Node) (st : List ℕ) (es : List (List ℕ)) (q : Parameter) (x y : Value)
+    → inForce (worldOn node st es .state .settings) q ≡ x → value (read st) q (deeds (read st) (worldOn node st es .log)) ≡ y
+    → eqb (numberOf x) (numberOf y) ≡ false → powerOnRefusal outputSize (length st) ≡ done → allBytes st ≡ true → Meets node → ⊥
+found-out node st es q x y has told differ e b m =
+    eqb-false (numberOf x) (numberOf y) differ
+    (ap numberOf (sym has ∙ m (identity 0 0 0 0) outputSize st (calls es) e (bytes-are st b) .values q ∙ told))
 
-abbrev pub told : Node → List (List ℕ) → Parameter → Value
-told node es q = value (read zeroStore) q (deeds (world node es .log))
+-- a safety frame while A is not signed
+unsafe : {v : Service} {k : Settings} {fv : Fv} {a : Frame} {fs : List Frame} → Safe v k fv (a ∷ fs) → safety a ≡ true → signs A (inForce k) ≡ false → ⊥
+unsafe (other h t) e n = false≢true (sym h ∙ e)
+unsafe (pair p t) e n = false≢true (sym n ∙ p .signed A)
 
--- ---- The wrong nodes
-
--- one that saves all at the first save and nothing later
-abbrev pub savesOnce : Node
-savesOnce e s st = let o = step e s st in record { state = o .state; sent = o .sent; store = cond (isGood st) st (o .store) }
-
--- one that does nothing
-abbrev pub idles : Node
-idles e s st = record { state = s; sent = []; store = st }
-
--- another state of settings, the rest of an outcome as it is
-abbrev pub withSettings : Settings → Outcome → Outcome
-withSettings k o = record { state = state (o .state .identity) k (o .state .core); sent = o .sent; store = o .store }
-
--- one whose validity byte outlives a covered write
-abbrev pub keepsValidity : Node
-keepsValidity e s st =
-    let o = step e s st in
-    withSettings (altered (λ (q : Parameter). cond (same q P51FE) (becomes (cond (eqb (s .settings .application .valid) 0xa5) (U8 0xa5) (inForce (o .state .settings) P51FE))) stays) (o .state .settings)) o
-
--- one whose resets bring back what is in force, and nobody saved
-abbrev pub isLoad : Change → Bool
-isLoad Keep = false
-isLoad (Write p v) = false
-isLoad (Save gs) = false
-isLoad (TakeOut gs) = false
-isLoad (Load gs id) = true
-isLoad SavePending = false
-
-abbrev pub keepsAtReset : Node
-keepsAtReset e s st =
-    let o = step e s st in
-    cond (isLoad (changeOf (service e) s (read st))) (withSettings (s .settings) o) o
-
--- one that sends its pair at every tick, signed or not
-abbrev pub alwaysPairs : Node
-alwaysPairs e s st =
-    let o = step e s st in
-    cond (eqb (kindOfEvent e) 2) (record { state = o .state; sent = srdoFirst (o .state) ∷ srdoSecond (o .state) ∷ []; store = o .store }) o
-
--- ---- Where each is found out
+-- ---- The runs
 
 -- the save word, and group C's reset
 abbrev save : List ℕ
@@ -103,44 +69,54 @@ save = writes 4 0x1010 1 0x65766173
 abbrev reset : List ℕ
 reset = commands 130 0
 
--- the CAN-ID of the first frame of a log's newest line
-abbrev firstId : List Line → ℕ
-firstId [] = 0
-firstId (l ∷ ls) = go (sentIn l)
-  where
-    go : List Frame → ℕ
-    go [] = 0
-    go (f ∷ fs) = f .id
+-- a store that a right node wrote, with 1017h at 500; and one whose N says 5
+abbrev fiveHundred : List ℕ
+fiveHundred = worldOn (serving step) zeroStore (writes 2 0x1017 0 500 ∷ save ∷ []) .store
 
-pub record WrongNodes : Type 0 where
-  -- 500 is saved and then 7; after a reset it has 500
-  pub saves-once-has : has savesOnce (writes 2 0x1017 0 500 ∷ save ∷ writes 2 0x1017 0 7 ∷ save ∷ reset ∷ []) P1017 ≡ U16 500
-  pub saves-once-told : told savesOnce (writes 2 0x1017 0 500 ∷ save ∷ writes 2 0x1017 0 7 ∷ save ∷ reset ∷ []) P1017 ≡ U16 7
-  -- a reset is a load with the ID that its boot-up tells, and there is none
-  pub idles-has : has idles (reset ∷ []) P1301s5 ≡ U32 0x101
-  pub idles-told : told idles (reset ∷ []) P1301s5 ≡ U32 0xff
-  -- signed off, and then the digits are written again
-  pub keeps-validity-has : has keepsValidity (writes 2 0x51ff 1 0xea44 ∷ writes 1 0x51fe 0 0xa5 ∷ writes 1 0x6132 1 3 ∷ []) P51FE ≡ U8 0xa5
-  pub keeps-validity-told : told keepsValidity (writes 2 0x51ff 1 0xea44 ∷ writes 1 0x51fe 0 0xa5 ∷ writes 1 0x6132 1 3 ∷ []) P51FE ≡ U8 0
-  -- 500 is written and not saved
-  pub keeps-at-reset-has : has keepsAtReset (writes 2 0x1017 0 500 ∷ reset ∷ []) P1017 ≡ U16 500
-  pub keeps-at-reset-told : told keepsAtReset (writes 2 0x1017 0 500 ∷ reset ∷ []) P1017 ≡ U16 0
-  -- a frame on 101h, while no signature matches
-  pub always-pairs-sends : firstId (world alwaysPairs (aTick ∷ []) .log) ≡ 0x101
-  pub always-pairs-unsigned : signs A (inForce (world alwaysPairs (aTick ∷ []) .state .settings)) ≡ false
+abbrev five : List ℕ
+five = build (recordN (address 5 3)) [] []
 
-pub wrong-nodes : WrongNodes
+-- 500 is saved and then 7; after a reset it has 500
+pub saves-once : Meets savesOnce → ⊥
 unfolding everything
-wrong-nodes =
-    record {
-      saves-once-has = refl;
-      saves-once-told = refl;
-      idles-has = refl;
-      idles-told = refl;
-      keeps-validity-has = refl;
-      keeps-validity-told = refl;
-      keeps-at-reset-has = refl;
-      keeps-at-reset-told = refl;
-      always-pairs-sends = refl;
-      always-pairs-unsigned = refl;
-    }
+saves-once =
+    found-out savesOnce zeroStore (writes 2 0x1017 0 500 ∷ save ∷ writes 2 0x1017 0 7 ∷ save ∷ reset ∷ []) P1017 (U16 500) (U16 7)
+    refl refl refl refl refl
+
+-- 500 was saved before, and it has the default
+pub idles-found : Meets idles → ⊥
+unfolding everything
+idles-found = found-out idles fiveHundred [] P1017 (U16 0) (U16 500) refl refl refl refl refl
+
+-- N says 5, and it boots up as 1
+pub starts-blindly : Meets startsBlindly → ⊥
+unfolding everything
+starts-blindly = found-out startsBlindly five [] P1301s5 (U32 0x101) (U32 0x109) refl refl refl refl refl
+
+-- 500 is written and not saved, and the reset, which may not be refused, is
+pub refuses-resets : Meets refusesResets → ⊥
+unfolding everything
+refuses-resets = found-out refusesResets zeroStore (writes 2 0x1017 0 500 ∷ reset ∷ []) P1017 (U16 500) (U16 0) refl refl refl refl refl
+
+-- 11h is answered, and the reset boots up as 1
+pub keeps-its-id : Meets keepsItsId → ⊥
+unfolding everything
+keeps-its-id =
+    found-out keepsItsId zeroStore (lss (4 ∷ 1 ∷ []) ∷ lss (0x11 ∷ 5 ∷ []) ∷ reset ∷ []) P1301s5 (U32 0x101) (U32 0x109) refl refl refl refl refl
+
+-- signed off, and then the digits are written again
+pub keeps-validity : Meets keepsValidity → ⊥
+unfolding everything
+keeps-validity =
+    found-out keepsValidity zeroStore (writes 2 0x51ff 1 0xea44 ∷ writes 1 0x51fe 0 0xa5 ∷ writes 1 0x6132 1 3 ∷ []) P51FE (U8 0xa5) (U8 0)
+    refl refl refl refl refl
+
+-- 500 is written and not saved, and the reset brings it back
+pub keeps-at-reset : Meets keepsAtReset → ⊥
+unfolding everything
+keeps-at-reset = found-out keepsAtReset zeroStore (writes 2 0x1017 0 500 ∷ reset ∷ []) P1017 (U16 500) (U16 0) refl refl refl refl refl
+
+-- a frame on 101h, while no signature matches
+pub always-pairs : Meets alwaysPairs → ⊥
+unfolding everything
+always-pairs m = unsafe (m (identity 0 0 0 0) outputSize zeroStore (calls (aTick ∷ [])) refl (bytes-are zeroStore refl) .pairs .0) refl refl

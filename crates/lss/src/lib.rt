@@ -13,7 +13,7 @@ use wire::address::is_node_id;
 ghost use mathlib.Core.Path.{_≡_};
 ghost use mathlib.Core.List.{[], _∷_};
 ghost use Prim.Native.Nat.{_≤_};
-ghost use Rattle.model.specs.Bytes.{le};
+ghost use Rattle.model.specs.Bytes.{lowBytes};
 ghost use Rattle.model.specs.Frames.{framesOf};
 ghost use Rattle.model.specs.Lss as Lss;
 ghost use Rattle.lss.specs.Told.{told, partOf};
@@ -189,7 +189,7 @@ fn tell(send: bool, command: u8, value: u8) -> Reply
 
 // An answer of a command byte and a number.
 fn tell_number(send: bool, command: u8, x: u32) -> Reply
-    ensures { λ r. ⌜ r ≡ told send (command ∷ le 4 x) ⌝ }
+    ensures { λ r. ⌜ r ≡ told send (command ∷ lowBytes 4 x) ⌝ }
 {
     let x1 = x / 256;
     let x2 = x1 / 256;

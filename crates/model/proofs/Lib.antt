@@ -1,3 +1,4 @@
+pub mod Numbers
 pub mod Everything
 pub mod Replay
 pub mod Marked

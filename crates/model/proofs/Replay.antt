@@ -4,7 +4,7 @@ use mathlib.Core.List.{List, [], _∷_, _++_}
 use lib.ListN.{length, replicate}
 use Rattle.model.specs.declared.Identity.{Identity}
 use Rattle.model.specs.declared.Frame.{Frame}
-use Rattle.model.specs.Bytes.{le}
+use Rattle.model.specs.Bytes.{lowBytes}
 use Rattle.model.specs.Frames.{dataOf, syncId, sdoRequests, lssRequests}
 use Rattle.model.specs.Step.{outputSize, zeroStore}
 use Rattle.model.specs.Run.{Call, Line, sentIn, World, begun, run}
@@ -18,7 +18,7 @@ padded n d = d ++ replicate (n - length d) 0
 
 -- a data frame
 abbrev pub gets : ℕ → List ℕ → List ℕ
-gets id d = padded 13 ((1 ∷ le 2 id) ++ (0 ∷ length d ∷ d))
+gets id d = padded 13 ((1 ∷ lowBytes 2 id) ++ (0 ∷ length d ∷ d))
 
 -- an SDO request to a node
 abbrev pub asks : ℕ → List ℕ → List ℕ
@@ -26,10 +26,10 @@ asks to d = gets (sdoRequests + to) (padded 8 d)
 
 -- a read from node 1, and a write of w bytes to it
 abbrev pub reads : ℕ → ℕ → List ℕ
-reads index sub = asks 1 (0x40 ∷ le 2 index ++ (sub ∷ []))
+reads index sub = asks 1 (0x40 ∷ lowBytes 2 index ++ (sub ∷ []))
 
 abbrev pub writes : ℕ → ℕ → ℕ → ℕ → List ℕ
-writes w index sub n = asks 1 ((0x23 + (4 - w) * 4) ∷ le 2 index ++ (sub ∷ le w n))
+writes w index sub n = asks 1 ((0x23 + (4 - w) * 4) ∷ lowBytes 2 index ++ (sub ∷ lowBytes w n))
 
 -- an NMT command to a node, 0 for all
 abbrev pub commands : ℕ → ℕ → List ℕ
@@ -46,7 +46,7 @@ abbrev pub aTick : List ℕ
 aTick = padded 13 (2 ∷ [])
 
 abbrev pub sample : ℕ → List ℕ
-sample fv = padded 13 (3 ∷ le 2 fv)
+sample fv = padded 13 (3 ∷ lowBytes 2 fv)
 
 abbrev pub ticks : ℕ → List (List ℕ)
 ticks n = replicate n aTick

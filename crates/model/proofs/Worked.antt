@@ -9,11 +9,11 @@ use Rattle.model.specs.declared.Parameter.the-variants.{P1017}
 use Rattle.model.specs.declared.Groups.the-variants.{Both, OnlyC}
 use Rattle.model.specs.declared.Change.the-variants.{Keep, Write, Save, Load}
 use Rattle.model.specs.declared.State.{State}
-use Rattle.model.specs.Parts.{withCore, withNmt, withTimers, timers}
+use Rattle.model.specs.Parts.{withCore, withNmt, withTimers, timers, address}
 use Rattle.model.specs.Store.{read}
 use Rattle.model.specs.Step.{refusal, refused, powerOnAnswer, zeroStore}
-use Rattle.model.specs.Run.{World, run}
-use Rattle.model.specs.History.{deeds, value}
+use Rattle.model.specs.Run.{called, World, run}
+use Rattle.model.specs.History.{kept, three, addresses, deeds, value}
 use Rattle.model.specs.Program.{program}
 use Rattle.model.proofs.Everything.{everything}
 use Rattle.model.proofs.Replay.{asks, reads, writes, commands, lss, aTick, ticks, sample, identity, spoken, calls, after, plainly, transcript}
@@ -33,8 +33,8 @@ pub example : program (reads 0x6132 1 ++ writes 1 0x6132 1 5 ++ aTick) ≡
 unfolding everything
 example = refl
 
--- ---- The order of the checks, two rules broken at once: in Operational a marked entry is locked before its value is looked at (5 is out of range);
--- 1000h is read-only before its length is; without a mark, the length comes before the value
+-- ---- The order of the checks, two rules broken at once: in Operational a starred entry is locked before its value is looked at (5 is out of range);
+-- 1000h is read-only before its length is; without a star, the length comes before the value
 
 pub in-order : transcript
     (writes 1 0x1301 1 0
@@ -228,6 +228,46 @@ pub across-the-wrap : spoken (run (calls (ticks 4)) (record { state = atTheTop (
 unfolding everything after
 across-the-wrap = refl
 
+-- ---- A stopped node beats on, and says that it is Stopped (4)
+
+pub stopped-heartbeat : transcript (writes 2 0x1017 0 2 ∷ commands 2 0 ∷ ticks 4) ≡
+    (0x701 ∷ 0 ∷ [])
+    ∷ (0x581 ∷ 0x60 ∷ 0x17 ∷ 0x10 ∷ 0 ∷ 0 ∷ 0 ∷ 0 ∷ 0 ∷ [])
+    ∷ (0x701 ∷ 4 ∷ [])
+    ∷ (0x701 ∷ 4 ∷ [])
+    ∷ []
+unfolding after
+stopped-heartbeat = refl
+
+-- ---- Type 255 goes by the event timer as 254 does: 3 ms, and the integer PV at FV 0, -4000
+
+pub type-255 : transcript
+    (writes 1 0x1301 1 0
+    ∷ writes 2 0x51ff 1 0xea44
+    ∷ writes 1 0x51fe 0 0xa5
+    ∷ writes 1 0x1800 2 255
+    ∷ writes 2 0x1800 5 3
+    ∷ commands 1 0
+    ∷ ticks 6)
+    ≡ (0x701 ∷ 0 ∷ [])
+    ∷ (0x581 ∷ 0x60 ∷ 0x01 ∷ 0x13 ∷ 1 ∷ 0 ∷ 0 ∷ 0 ∷ 0 ∷ [])
+    ∷ (0x581 ∷ 0x60 ∷ 0xff ∷ 0x51 ∷ 1 ∷ 0 ∷ 0 ∷ 0 ∷ 0 ∷ [])
+    ∷ (0x581 ∷ 0x60 ∷ 0xfe ∷ 0x51 ∷ 0 ∷ 0 ∷ 0 ∷ 0 ∷ 0 ∷ [])
+    ∷ (0x581 ∷ 0x60 ∷ 0x00 ∷ 0x18 ∷ 2 ∷ 0 ∷ 0 ∷ 0 ∷ 0 ∷ [])
+    ∷ (0x581 ∷ 0x60 ∷ 0x00 ∷ 0x18 ∷ 5 ∷ 0 ∷ 0 ∷ 0 ∷ 0 ∷ [])
+    ∷ (0x181 ∷ 0x60 ∷ 0xf0 ∷ 0xff ∷ 0xff ∷ [])
+    ∷ (0x181 ∷ 0x60 ∷ 0xf0 ∷ 0xff ∷ 0xff ∷ [])
+    ∷ []
+unfolding after
+type-255 = refl
+
+-- ---- A write of 1301h:2 at clock 5 restarts the SRDO's timer, and no other. (1301h:2 can't be written while Operational, and Start restarts the timer
+-- too: so this shows in the state alone)
+
+pub srdo-restarted : plainly (ticks 5 ++ (writes 2 0x1301 2 50 ∷ [])) .state .core .timers ≡ timers 5 0 0 5
+unfolding after
+srdo-restarted = refl
+
 -- ---- The refusals: each by itself, the lowest of several, and a tick that ignores its other bytes; and a refused power-on
 
 abbrev pub idle : State
@@ -260,11 +300,28 @@ remembering =
     plainly
     (writes 2 0x1017 0 500 ∷ writes 4 0x1010 1 0x65766173 ∷ writes 2 0x1017 0 7 ∷ writes 1 0x6132 1 5 ∷ commands 130 0 ∷ [])
 
-pub deeds-told : deeds (remembering .log) ≡
+pub deeds-told : deeds (read zeroStore) (remembering .log) ≡
     Load OnlyC 1 ∷ Keep ∷ Write P1017 (U16 7) ∷ Save Both ∷ Write P1017 (U16 500) ∷ Load Both 1 ∷ []
 unfolding everything after
 deeds-told = refl
 
-pub value-told : value (read zeroStore) P1017 (deeds (remembering .log)) ≡ U16 500
+pub value-told : value (read zeroStore) P1017 (deeds (read zeroStore) (remembering .log)) ≡ U16 500
 unfolding everything after
 value-told = refl
+
+-- ---- and of Node-ID and bit index: 5 and 2 are set by LSS and stored, then 7 is set, and after 128, which is out of range, the node is reset: 7 is
+-- active, its bit index stays 3 till the next power-on or reset node, and N holds 5 and 2
+
+abbrev pub moving : World
+moving =
+    plainly
+    (lss (0x04 ∷ 1 ∷ []) ∷ lss (0x11 ∷ 5 ∷ []) ∷ lss (0x13 ∷ 0 ∷ 2 ∷ []) ∷ lss (0x17 ∷ []) ∷ lss (0x11 ∷ 7 ∷ []) ∷ lss (0x11 ∷ 128 ∷ []) ∷ commands 130 0 ∷ [])
+
+pub addresses-told : addresses (read zeroStore) (moving .log) ≡ three (address 7 3) (address 7 2) (kept (address 5 2))
+unfolding everything after
+addresses-told = refl
+
+-- a reset that a line shows as refused by 2 is a load all the same: its bytes and its output are in order
+pub number-not-believed : deeds (read zeroStore) (called (commands 130 0) 48 2 [] ∷ moving .log) ≡ Load OnlyC 7 ∷ deeds (read zeroStore) (moving .log)
+unfolding everything after
+number-not-believed = refl

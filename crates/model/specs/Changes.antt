@@ -11,15 +11,15 @@ use Rattle.model.specs.declared.Change.the-variants.{Keep, Write, Save, 
 use Rattle.model.specs.declared.Settings.{Settings}
 use Rattle.model.specs.declared.State.{State}
 use Rattle.model.specs.Settings.{row, same, has, inForce, Now, stays, becomes, altered}
-use Rattle.model.specs.Validity.{validityOf, unmarks, changes}
+use Rattle.model.specs.Validity.{validityOf, revokes, changes}
 use Rattle.model.specs.Store.{Saved, read, loaded, recordOf, renewed, readdressed}
 use Rattle.model.specs.Parts.{idOf}
 
 -- ---- The parameters
 
 -- a validity byte is set to 0
-abbrev pub unmarked : Now
-unmarked = becomes (U8 0)
+abbrev pub revoked : Now
+revoked = becomes (U8 0)
 
 -- what a change does to parameter q, where k is in force and sv is saved:
 -- a write sets its parameter and, where that is a change, may force a validity byte to 0; a load word forces those of its groups to 0;
@@ -27,9 +27,9 @@ unmarked = becomes (U8 0)
 unfoldable pub effect : Change → Settings → Saved → Parameter → Now
 effect Keep k sv q = stays
 effect (Write p v) k sv q =
-    cond (same q p) (becomes v) (cond (unmarks p q && changes p v (inForce k)) unmarked stays)
+    cond (same q p) (becomes v) (cond (revokes p q && changes p v (inForce k)) revoked stays)
 effect (Save gs) k sv q = stays
-effect (TakeOut gs) k sv q = cond (has gs (row q .group) && same q (validityOf (row q .group))) unmarked stays
+effect (TakeOut gs) k sv q = cond (has gs (row q .group) && same q (validityOf (row q .group))) revoked stays
 effect (Load gs id) k sv q = cond (has gs (row q .group)) (becomes (loaded id sv q)) stays
 effect SavePending k sv q = stays
 

@@ -25,11 +25,11 @@ use Rattle.model.specs.Parts.{idOf, pv, integerPv, pvBits, pvInverse, er
 
 -- ---- The table
 
-infix 90 _▹_
+infix 90 _holds_
 infix 90 _▸_
 -- an entry at its sub
 pub data Sub : Type 0 where
-  _▹_ : ℕ → Entry → Sub
+  _holds_ : ℕ → Entry → Sub
 
 -- an object is a single entry at sub 0, or a record: its highest sub, and its entries from sub 1 on
 pub data Object : Type 0 where
@@ -42,7 +42,7 @@ pub data Place : Type 0 where
 
 -- a record of one entry, at sub 1
 abbrev pub one : Entry → Object
-one e = several 1 (1 ▹ e ∷ [])
+one e = several 1 (1 holds e ∷ [])
 
 -- every object: the read-only constants, what is made from the state, the saved parameters, and 1010h and 1011h
 abbrev pub objects : List Place
@@ -51,28 +51,28 @@ objects =
     ∷ 0x1001 ▸ single (Shown ErrorRegister)
     ∷ 0x1005 ▸ single (Fixed (U32 syncId))
     ∷ 0x1008 ▸ single Name
-    ∷ 0x1010 ▸ several 3 (1 ▹ SaveWord Both ∷ 2 ▹ SaveWord OnlyC ∷ 3 ▹ SaveWord OnlyA ∷ [])
-    ∷ 0x1011 ▸ several 3 (1 ▹ LoadWord Both ∷ 2 ▹ LoadWord OnlyC ∷ 3 ▹ LoadWord OnlyA ∷ [])
+    ∷ 0x1010 ▸ several 3 (1 holds SaveWord Both ∷ 2 holds SaveWord OnlyC ∷ 3 holds SaveWord OnlyA ∷ [])
+    ∷ 0x1011 ▸ several 3 (1 holds LoadWord Both ∷ 2 holds LoadWord OnlyC ∷ 3 holds LoadWord OnlyA ∷ [])
     ∷ 0x1014 ▸ single (Shown EmcyId)
     ∷ 0x1017 ▸ single (Setting P1017)
-    ∷ 0x1018 ▸ several 4 (1 ▹ Shown Vendor ∷ 2 ▹ Shown Product ∷ 3 ▹ Shown Revision ∷ 4 ▹ Shown Serial ∷ [])
-    ∷ 0x1200 ▸ several 2 (1 ▹ Shown SdoRequestId ∷ 2 ▹ Shown SdoReplyId ∷ [])
+    ∷ 0x1018 ▸ several 4 (1 holds Shown Vendor ∷ 2 holds Shown Product ∷ 3 holds Shown Revision ∷ 4 holds Shown Serial ∷ [])
+    ∷ 0x1200 ▸ several 2 (1 holds Shown SdoRequestId ∷ 2 holds Shown SdoReplyId ∷ [])
     ∷ 0x1301
     ▸ several 6
-    (1 ▹ Setting P1301s1
-    ∷ 2 ▹ Setting P1301s2
-    ∷ 3 ▹ Setting P1301s3
-    ∷ 4 ▹ Fixed (U8 254)
-    ∷ 5 ▹ Setting P1301s5
-    ∷ 6 ▹ Setting P1301s6
+    (1 holds Setting P1301s1
+    ∷ 2 holds Setting P1301s2
+    ∷ 3 holds Setting P1301s3
+    ∷ 4 holds Fixed (U8 254)
+    ∷ 5 holds Setting P1301s5
+    ∷ 6 holds Setting P1301s6
     ∷ [])
-    ∷ 0x1381 ▸ several 2 (1 ▹ Fixed (U32 firstMapping) ∷ 2 ▹ Fixed (U32 secondMapping) ∷ [])
+    ∷ 0x1381 ▸ several 2 (1 holds Fixed (U32 firstMapping) ∷ 2 holds Fixed (U32 secondMapping) ∷ [])
     ∷ 0x13fe ▸ single (Setting P13FE)
     ∷ 0x13ff ▸ one (Setting P13FF)
-    ∷ 0x1800 ▸ several 5 (1 ▹ Shown TpdoId ∷ 2 ▹ Setting P1800s2 ∷ 5 ▹ Setting P1800s5 ∷ [])
+    ∷ 0x1800 ▸ several 5 (1 holds Shown TpdoId ∷ 2 holds Setting P1800s2 ∷ 5 holds Setting P1800s5 ∷ [])
     ∷ 0x1a00 ▸ one (Fixed (U32 0x91300120))
     ∷ 0x2330 ▸ single (Setting P2330)
-    ∷ 0x5030 ▸ several 2 (1 ▹ Shown PvBits ∷ 2 ▹ Shown PvInverse ∷ [])
+    ∷ 0x5030 ▸ several 2 (1 holds Shown PvBits ∷ 2 holds Shown PvInverse ∷ [])
     ∷ 0x51fe ▸ single (Setting P51FE)
     ∷ 0x51ff ▸ one (Setting P51FF)
     ∷ 0x6121 ▸ one (Setting P6121)
@@ -92,7 +92,7 @@ objects =
 -- the entry at a sub of a record
 abbrev pub subIn : ℕ → List Sub → Found
 subIn sub [] = NoSub
-subIn sub (k ▹ e ∷ es) = cond (eqb sub k) (At e) (subIn sub es)
+subIn sub (k holds e ∷ es) = cond (eqb sub k) (At e) (subIn sub es)
 
 -- the entry at a sub of an object; sub 0 of a record is read-only and tells its highest sub
 abbrev pub entryIn : ℕ → Object → Found

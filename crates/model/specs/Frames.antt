@@ -1,5 +1,5 @@
 -- Document 01, "Events, frames and the answer": the bytes of an event, the bytes of a frame, and where frames are laid. Assumes nothing.
-use Prim.Native.Nat.{ℕ, _+_, _*_, _/_, _%_}
+use Prim.Native.Nat.{ℕ, zero, suc, _+_, _*_, _/_, _%_}
 use mathlib.Core.Bool.{Bool, true, false}
 use mathlib.Core.List.{List, [], _∷_, _++_}
 use lib.ListN.{length, take, drop}
@@ -124,3 +124,14 @@ laid (f ∷ fs) = frameBytes f ++ laid fs
 -- the output after a call: the frames from byte 0 on, and past them what stood there
 unfoldable pub overlay : List Frame → List ℕ → List ℕ
 overlay fs out = laid fs ++ drop (12 * length fs) out
+
+-- ---- Frames read back out of an output
+
+-- the one in the first 12 bytes
+abbrev pub frameRead : List ℕ → Frame
+frameRead l = framed (numberAt 0 2 l) (byteAt 3 l) (drop 4 l)
+
+-- the first k
+unfoldable pub framesRead : ℕ → List ℕ → List Frame
+framesRead zero l = []
+framesRead (suc k) l = frameRead l ∷ framesRead k (drop 12 l)

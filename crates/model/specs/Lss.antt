@@ -14,7 +14,7 @@ use Rattle.model.specs.declared.Frame.{Frame}
 use Rattle.model.specs.declared.Core.{Core}
 use Rattle.model.specs.declared.State.{State}
 use Rattle.model.specs.Choice.{_⇒_, firstHit}
-use Rattle.model.specs.Bytes.{le}
+use Rattle.model.specs.Bytes.{lowBytes}
 use Rattle.model.specs.Frames.{full, when, lssAnswers}
 use Rattle.model.specs.Service.{lssNodeId, lssBitIndex, lssStore, lssIdentity, lssActiveId}
 use Rattle.model.specs.Store.{nodeId, bitIndex}
@@ -44,7 +44,7 @@ selectionAfter n number s =
 unfoldable pub modeAfter : ℕ → Bool → Bool
 modeAfter mode now = firstHit ((eqb mode 0 ⇒ false) ∷ (eqb mode 1 ⇒ true) ∷ []) now
 
--- the LSS state after a request: every one but the next number restarts the progress
+-- the LSS state after a request: the next number alone carries the selection on, and after any other request it begins at the first number again
 unfoldable pub lssAfter : LssRequest → State → Selection
 lssAfter (Select n number) s = selectionAfter n number s
 lssAfter (SwitchMode mode) s = selection (modeAfter mode (s .core .lss .configuration)) 0
@@ -77,7 +77,7 @@ pendingAfter (AskIdentity n) s = s .core .pending
 pendingAfter AskNodeId s = s .core .pending
 pendingAfter OtherLss s = s .core .pending
 
--- 17h stores the pending pair
+-- 17h writes the pending pair into the store
 unfoldable pub lssChange : LssRequest → State → Change
 lssChange (Select n number) s = Keep
 lssChange (SwitchMode mode) s = Keep
@@ -99,14 +99,14 @@ abbrev pub errorUnless : Bool → ℕ
 errorUnless true = 0
 errorUnless false = 1
 
--- the selection is answered by 44h in both states, and else only configuration answers
+-- 44h tells that the last number matched, in waiting too; all else is answered in configuration alone
 unfoldable pub lssReply : LssRequest → State → List Frame
 lssReply (Select n number) s = when (selects n number s) (answered (0x44 ∷ []))
 lssReply (SwitchMode mode) s = []
 lssReply (SetNodeId id) s = when (inConfiguration s) (answered (lssNodeId ∷ errorUnless (nodeId id) ∷ []))
 lssReply (SetBitIndex table bit) s = when (inConfiguration s) (answered (lssBitIndex ∷ errorUnless (bitInTable table bit) ∷ []))
 lssReply StorePending s = when (inConfiguration s) (answered (lssStore ∷ 0 ∷ []))
-lssReply (AskIdentity n) s = when (inConfiguration s) (answered ((lssIdentity + n) ∷ le 4 (identityPart n (s .identity))))
+lssReply (AskIdentity n) s = when (inConfiguration s) (answered ((lssIdentity + n) ∷ lowBytes 4 (identityPart n (s .identity))))
 lssReply AskNodeId s = when (inConfiguration s) (answered (lssActiveId ∷ idOf s ∷ []))
 lssReply OtherLss s = []
 

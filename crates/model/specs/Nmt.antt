@@ -16,7 +16,7 @@ use Rattle.model.specs.declared.State.{State}
 use Rattle.model.specs.Choice.{_⇒_, firstHit}
 use Rattle.model.specs.Frames.{frame, heartbeats}
 use Rattle.model.specs.Settings.{inForce}
-use Rattle.model.specs.Validity.{marked}
+use Rattle.model.specs.Validity.{vouched}
 use Rattle.model.specs.Store.{Saved, addressFrom}
 use Rattle.model.specs.Parts.{withAddresses, withNmt, withReported, withFv, withLss, withUpload, address, noSelection, noUpload, idOf, Stopped, Operational, PreOperational, isOperational, isPreOperational}
 use Rattle.model.specs.Time.{restartHeartbeat, restartTpdo, restartSrdo}
@@ -44,7 +44,7 @@ isFor to id = eqb to 0 || eqb to id
 
 -- ---- Start, Stop and Pre-operational
 
--- leaving Pre-operational ends LSS configuration and progress
+-- a node that is no longer Pre-operational has no LSS session: it is back in waiting, and numbers that matched are forgotten
 unfoldable pub lssLeft : Core → Selection
 lssLeft c = cond (isPreOperational c) noSelection (c .lss)
 
@@ -52,15 +52,15 @@ lssLeft c = cond (isPreOperational c) noSelection (c .lss)
 abbrev pub leaveFor : ℕ → Core → Core
 leaveFor n c = withNmt (withLss c (lssLeft c)) n
 
--- Start is obeyed with valid application parameters and, where the SRDO is on, valid ones of the SRDO
+-- Start asks for 51FEh to vouch and, with an SRDO that is on, for 13FEh too
 unfoldable pub startObeyed : Settings → Bool
-startObeyed k = marked A (inForce k) && (eqb (k .communication .srdo .direction) 0 || marked C (inForce k))
+startObeyed k = vouched A (inForce k) && (eqb (k .communication .srdo .direction) 0 || vouched C (inForce k))
 
--- entering Operational restarts TPDO and SRDO; in Operational Start does nothing
+-- on the way into Operational TPDO and SRDO begin anew; a node that is there already stays as it is
 unfoldable pub start : Settings → Core → Core
 start k c = cond (not (isOperational c) && startObeyed k) (restartSrdo (restartTpdo (leaveFor Operational c))) c
 
--- Stop ends an upload
+-- a node that is stopped has no upload open
 unfoldable pub stop : Core → Core
 stop c = withUpload (leaveFor Stopped c) noUpload
 
@@ -102,7 +102,7 @@ readied Both id sv c = withFv (withAddresses c (address id (addressFrom sv .bit)
 readied OnlyC id sv c = withAddresses c (address id (c .active .bit)) (address id (c .pending .bit))
 readied OnlyA id sv c = c
 
--- into Pre-operational, upload and LSS ended, the reported flag off, every timer and the SYNC count restarted
+-- the rest of the state as a fresh start has it: Pre-operational, nothing open, nothing reported, and all counting begins at the present clock
 unfoldable pub cleared : Core → Core
 cleared c =
     restartSrdo (restartTpdo (restartHeartbeat (withReported (withUpload (withLss (preOperational c) noSelection) noUpload) false)))

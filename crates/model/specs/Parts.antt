@@ -28,8 +28,18 @@ withCore s c = state (s .identity) (s .settings) c
 
 -- all that no save keeps, from its parts
 abbrev pub core : Address → Address → ℕ → Bool → Fv → Timers → Sending → Selection → Upload → Core
-core a p n r f t d l u =
-    record { active = a; pending = p; nmt = n; reported = r; fv = f; timers = t; tpdo = d; lss = l; upload = u }
+core active pending nmt reported fv times tpdo lss upload =
+    record {
+      active = active;
+      pending = pending;
+      nmt = nmt;
+      reported = reported;
+      fv = fv;
+      timers = times;
+      tpdo = tpdo;
+      lss = lss;
+      upload = upload;
+    }
 
 -- with another active and pending pair of Node-ID and bit index
 abbrev pub withAddresses : Core → Address → Address → Core
@@ -64,7 +74,7 @@ address id bit = record { id = id; bit = bit }
 
 -- the clock, and the starts of heartbeat, TPDO and SRDO
 abbrev pub timers : ℕ → ℕ → ℕ → ℕ → Timers
-timers c h t s = record { clock = c; heartbeat = h; tpdo = t; srdo = s }
+timers clock heartbeat tpdo srdo = record { clock = clock; heartbeat = heartbeat; tpdo = tpdo; srdo = srdo }
 
 -- SYNCs counted, and whether there is a new sample
 abbrev pub sending : ℕ → Bool → Sending

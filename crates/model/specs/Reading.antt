@@ -21,7 +21,8 @@ fourThousand = fin false 125 (pos 5)
 abbrev pub sixteenThousand : Float
 sixteenThousand = fin false 125 (pos 7)
 
--- PV of the two scaling points, the offset and FV. Each of the six steps is rounded once, as Real32, to nearest, ties to even
+-- PV of the two scaling points, the offset and FV: six operations of Real32 arithmetic, each with the usual rounding of IEEE 754 (the nearest float,
+-- and of two the even one)
 unfoldable pub pvOf : Scaling → Fv → Pv
 pvOf s fv =
     let a = sub binary32 (s .high) (s .low) in
@@ -33,11 +34,11 @@ pvOf s fv =
 
 -- ---- The integer PV
 
--- |M| of a PV of size u / d, where PV is M / 2^149 with M whole
+-- every finite Real32 is a whole number of times 2^-149: how many times, for one of size u / d
 abbrev pub magnitude : ℕ → ℕ → ℕ
 magnitude u d = u * 2 ^ 149 / d
 
--- the size of the integer PV, with k digits: PV times 10^k to the nearest, halves away from zero
+-- the size of the integer PV with k digits: the decimal point moved by k places, then the nearest whole number, and of two the larger
 unfoldable pub sizeOf : ℕ → ℕ → ℕ
 sizeOf m k = (2 * m * 10 ^ k + 2 ^ 149) / 2 ^ 150
 
@@ -55,7 +56,7 @@ int32 false n = n
 abbrev pub exact : Bool → ℕ → Integer
 exact sign size = record { bits = int32 sign size; capped = false }
 
--- the nearer end of Integer32: such a reading is capped
+-- a size that is too large is cut down to the end of Integer32 on that side: a capped reading
 abbrev pub nearerEnd : Bool → Integer
 nearerEnd sign = record { bits = int32 sign (end sign); capped = true }
 

@@ -30,8 +30,8 @@ unfoldable pub ruleRanges : State → Bool
 ruleRanges s = inRanges (rows C) (inForce (s .settings)) && inRanges (rows A) (inForce (s .settings))
 
 -- no false validity byte
-unfoldable pub ruleMarks : State → Bool
-ruleMarks s = honest C (inForce (s .settings)) && honest A (inForce (s .settings))
+unfoldable pub ruleHonest : State → Bool
+ruleHonest s = honest C (inForce (s .settings)) && honest A (inForce (s .settings))
 
 -- Operational only with parameters that Start would accept
 unfoldable pub ruleStart : State → Bool
@@ -66,4 +66,4 @@ rules s =
     ruleIds s
     && (ruleBits s
     && (ruleNmt s
-    && (ruleRanges s && (ruleMarks s && (ruleStart s && (ruleReported s && (ruleLss s && (ruleSync s && ruleUpload s))))))))
+    && (ruleRanges s && (ruleHonest s && (ruleStart s && (ruleReported s && (ruleLss s && (ruleSync s && ruleUpload s))))))))

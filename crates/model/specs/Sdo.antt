@@ -26,7 +26,7 @@ use Rattle.model.specs.declared.Upload.{Upload}
 use Rattle.model.specs.declared.Core.{Core}
 use Rattle.model.specs.declared.State.{State}
 use Rattle.model.specs.Choice.{Arm, _⇒_, firstHit}
-use Rattle.model.specs.Bytes.{le, part}
+use Rattle.model.specs.Bytes.{lowBytes, part}
 use Rattle.model.specs.Values.{widthOf, kindOf, numberOf, encoded, decoded}
 use Rattle.model.specs.Frames.{full, sdoReplies}
 use Rattle.model.specs.Settings.{row, same, judge, isInside, inForce}
@@ -54,7 +54,7 @@ noSub = 0x06090011
 abbrev pub readOnly : ℕ
 readOnly = 0x06010002
 
--- an entry marked * while Operational
+-- a starred entry (*) while Operational
 abbrev pub locked : ℕ
 locked = 0x08000022
 
@@ -108,11 +108,11 @@ rangeCode Above = tooHigh
 rangeCode Below = tooLow
 
 -- A5h into a validity byte that it would make false
-unfoldable pub falseMark : Parameter → Value → State → Bool
-falseMark p v s =
+unfoldable pub unearned : Parameter → Value → State → Bool
+unearned p v s =
     same p (validityOf (row p .group)) && (eqb (numberOf v) A5h && not (valid (row p .group) (inForce (s .settings))))
 
--- a marked entry while Operational, then the length
+-- a starred entry while Operational, then the length
 abbrev pub accessChecks : Bool → Kind → ℕ → State → List (Arm ℕ)
 accessChecks star k size s =
     (star && isOperational (s .core) ⇒ locked)
@@ -123,16 +123,22 @@ accessChecks star k size s =
 -- a saved parameter's value
 abbrev pub valueChecks : Parameter → Value → State → List (Arm ℕ)
 valueChecks p v s =
-    (not (isInside (judge (row p .range) v)) ⇒ rangeCode (judge (row p .range) v)) ∷ (falseMark p v s ⇒ notValid) ∷ []
+    (not (isInside (judge (row p .range) v)) ⇒ rangeCode (judge (row p .range) v)) ∷ (unearned p v s ⇒ notValid) ∷ []
 
 -- a word that must be this one
 abbrev pub wordChecks : ℕ → ℕ → List (Arm ℕ)
 wordChecks word d = (not (eqb d word) ⇒ wrongWord) ∷ []
 
+-- the first two checks, which a read has too: what the look at index and sub finds
+abbrev pub foundCode : Found → ℕ
+foundCode NoObject = noObject
+foundCode NoSub = noSub
+foundCode (At e) = accepted
+
 -- the abort code of a write of four bytes d, of which `size` count, to what was found; or that it is accepted
 unfoldable pub writeCode : Found → ℕ → ℕ → State → ℕ
-writeCode NoObject size d s = noObject
-writeCode NoSub size d s = noSub
+writeCode NoObject size d s = foundCode NoObject
+writeCode NoSub size d s = foundCode NoSub
 writeCode (At (Fixed v)) size d s = readOnly
 writeCode (At Name) size d s = readOnly
 writeCode (At (Shown l)) size d s = readOnly
@@ -158,11 +164,7 @@ asked (At (LoadWord gs)) d = TakeOut gs
 unfoldable pub checkedWrite : Found → ℕ → ℕ → State → Checked
 checkedWrite f size d s = let code = writeCode f size d s in cond (eqb code accepted) (Accepted (asked f d)) (Refused code)
 
--- the number of each answer, and its change
-abbrev pub codeOf : Checked → ℕ
-codeOf (Refused code) = code
-codeOf (Accepted c) = accepted
-
+-- the change of each answer
 abbrev pub changeIn : Checked → Change
 changeIn (Refused code) = Keep
 changeIn (Accepted c) = c
@@ -184,7 +186,7 @@ replied s d = full (sdoReplies + idOf s) d
 
 -- command byte, index and sub, then four bytes
 abbrev pub headed : ℕ → ℕ → ℕ → List ℕ → List ℕ
-headed command index sub rest = command ∷ (le 2 index ++ (sub ∷ rest))
+headed command index sub rest = command ∷ (lowBytes 2 index ++ (sub ∷ rest))
 
 -- an accepted write
 abbrev pub acknowledged : ℕ → ℕ → State → Frame
@@ -192,7 +194,7 @@ acknowledged index sub s = replied s (headed 0x60 index sub [])
 
 -- an abort, with its code
 abbrev pub aborted : ℕ → ℕ → ℕ → State → Frame
-aborted index sub code s = replied s (headed 0x80 index sub (le 4 code))
+aborted index sub code s = replied s (headed 0x80 index sub (lowBytes 4 code))
 
 -- a value of up to four bytes goes in the reply itself
 abbrev pub expedited : Kind → ℕ
@@ -204,13 +206,13 @@ expedited K.Real32 = 0x43
 
 -- the reply that begins an upload: the name's length, since it goes by segments, or the value
 abbrev pub uploaded : Content → ℕ → ℕ → State → Frame
-uploaded Text index sub s = replied s (headed 0x41 index sub (le 4 (length name)))
+uploaded Text index sub s = replied s (headed 0x41 index sub (lowBytes 4 (length name)))
 uploaded (Plain v) index sub s = replied s (headed (expedited (kindOf v)) index sub (encoded v))
 
 -- a read has only the first two of the checks
 abbrev pub readFrom : Found → ℕ → ℕ → State → Frame
-readFrom NoObject index sub s = aborted index sub noObject s
-readFrom NoSub index sub s = aborted index sub noSub s
+readFrom NoObject index sub s = aborted index sub (foundCode NoObject) s
+readFrom NoSub index sub s = aborted index sub (foundCode NoSub) s
 readFrom (At e) index sub s = uploaded (contentOf e s) index sub s
 
 -- ---- The upload by segments, seven bytes each

@@ -1,4 +1,4 @@
--- Document 01, "Dictionary": the saved parameters. One table gives each its mark, type, range, default and group. Assumes nothing.
+-- Document 01, "Dictionary": the saved parameters. One table gives each its star, type, range, default and group. Assumes nothing.
 use Prim.Native.Nat.{ℕ, _+_, _*_, _%_}
 use mathlib.Core.Bool.{Bool, true, false, cond, _&&_, _||_}
 use mathlib.Core.List.{List, [], _∷_, _++_}
@@ -30,7 +30,7 @@ pub data Range : Type 0 where
   oneOf : (ℕ → Bool) → Range
   real : Range
 
--- a row: its number, whether it is marked *, type, range, default for a Node-ID, group
+-- a row: its number, whether it has the star *, type, range, default for a Node-ID, group
 pub record Row : Type 0 where
   pub number : ℕ
   pub star : Bool
@@ -43,7 +43,7 @@ abbrev pub line : ℕ → Bool → Kind → Range → (ℕ → Value) → Group 
 line number star kind range default group =
     record { number = number; star = star; kind = kind; range = range; default = default; group = group }
 
--- the mark *, and none
+-- the star *, and none
 abbrev pub starred : Bool
 starred = true
 
@@ -74,7 +74,7 @@ secondCob id = cond (ltb 64 id) 0x180 (0x100 + 2 * id)
 
 -- ---- The table
 
--- number, mark *, type, range, default, group
+-- number, star *, type, range, default, group
 abbrev pub row : Parameter → Row
 row P1017 = line 0 free K.U16 all (is (U16 0)) C
 row P1301s1 = line 1 starred K.U8 (between 0 1) (is (U8 1)) C
@@ -116,7 +116,7 @@ table =
     ∷ P51FF
     ∷ []
 
--- one parameter and the same
+-- p and q are the same parameter
 abbrev pub same : Parameter → Parameter → Bool
 same p q = eqb (row p .number) (row q .number)
 
@@ -125,7 +125,7 @@ abbrev pub among : List Parameter → Parameter → Bool
 among [] p = false
 among (q ∷ qs) p = same p q || among qs p
 
--- one group and the same
+-- two groups are the same
 abbrev pub sameGroup : Group → Group → Bool
 sameGroup C C = true
 sameGroup C A = false
@@ -141,7 +141,7 @@ has OnlyA g = sameGroup g A
 -- those of some rows that are in a group
 abbrev pub inGroup : Group → List Parameter → List Parameter
 inGroup g [] = []
-inGroup g (p ∷ ps) = cond (sameGroup (row p .group) g) (p ∷ inGroup g ps) (inGroup g ps)
+inGroup g (p ∷ ps) = cond (sameGroup (row p .group) g) (p ∷ []) [] ++ inGroup g ps
 
 -- the rows of a group, in the table's order
 unfoldable pub rows : Group → List Parameter

@@ -4,6 +4,7 @@
 --                               |                    |
 --                               +-- reply, heard ----+--coreAfter, bootUp----> the rest of the state, the frames; EMCY comes last
 use Prim.Native.Nat.{ℕ}
+use mathlib.Core.Path.{_≡_}
 use mathlib.Core.Bool.{Bool, true, false, cond, not, _&&_, _||_}
 use mathlib.Core.List.{List, [], _∷_, _++_}
 use lib.Dec.{eqb, ltb}
@@ -64,7 +65,7 @@ outputSize = 48
 abbrev pub storeSize : ℕ
 storeSize = 64
 
--- a frame whose CAN-ID, flag or length is none
+-- a frame whose CAN-ID, flag or length is out of range
 abbrev pub badFrameIn : List ℕ → Bool
 badFrameIn e = ltb 2047 (canId e) || (ltb 1 (flagIn e) || ltb 8 (lengthIn e))
 
@@ -109,7 +110,7 @@ reply (Remote to) s = remoteFrames to s
 reply (Sdo to r) s = cond (serves to s) (sdoReply r s) []
 reply (Lss r) s = cond (isPreOperational (s .core)) (lssReply r s) []
 
--- the core after it, a reset's load and the restart of a timer apart; a frame that no service owns changes nothing
+-- the core as the service alone leaves it; what a reset's load or a written period does to the core comes on top (`coreAfter`)
 unfoldable pub heard : Service → State → Core
 heard Nothing s = s .core
 heard Tick s = ticked s
@@ -207,7 +208,7 @@ pub record Answered : Type 0 where
 abbrev pub turnedAway : ℕ → State → Answer
 turnedAway n s = record { number = n; count = 0; state = s }
 
--- it leaves output and store
+-- a refused call leaves output and store as they were
 abbrev pub refused : ℕ → State → List ℕ → List ℕ → Answered
 refused n s out st = record { answer = turnedAway n s; output = out; store = st }
 
@@ -231,3 +232,11 @@ unfoldable pub powerOnAnswer : Identity → List ℕ → List ℕ → Answered
 powerOnAnswer i out st =
     let n = powerOnRefusal (length out) (length st) in
     cond (eqb n done) (given (powerOn i st) out) (refused n (powerOn i zeroStore .state) out st)
+
+-- ---- What the two calls promise
+
+-- the answer r of a call, and what output and store hold after it, are those of its definition
+pub record Gives (o : Answered) (r : Answer) (ys zs : List ℕ) : Type 0 where
+  pub answer : r ≡ o .answer
+  pub output : ys ≡ o .output
+  pub store : zs ≡ o .store

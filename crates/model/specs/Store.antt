@@ -11,7 +11,7 @@ use Rattle.model.specs.declared.Group.{Group}
 use Rattle.model.specs.declared.Group.the-variants.{C, A}
 use Rattle.model.specs.declared.Groups.{Groups}
 use Rattle.model.specs.declared.Address.{Address}
-use Rattle.model.specs.Bytes.{le, part, byteAt, numberAt, sameBytes, within}
+use Rattle.model.specs.Bytes.{lowBytes, part, byteAt, numberAt, sameBytes, within}
 use Rattle.model.specs.Signature.{crcOf}
 use Rattle.model.specs.Values.{widthOf, typed}
 use Rattle.model.specs.Settings.{row, rows, same, among, has, bytesOf}
@@ -23,7 +23,7 @@ use Rattle.model.specs.Validity.{sound}
 abbrev pub recordN : Address → List ℕ
 recordN a = a .id ∷ a .bit ∷ []
 
--- C: the active ID, then the table's C rows; A: the A rows
+-- C begins with the ID that is active, and its rows follow in the order of the table; A is its rows alone
 unfoldable pub recordOf : Group → ℕ → (Parameter → Value) → List ℕ
 recordOf C id f = id ∷ bytesOf (rows C) f
 recordOf A id f = bytesOf (rows A) f
@@ -54,7 +54,7 @@ placeOf p = placeFrom (rowsAt (row p .group)) (rows (row p .group)) p
 unfoldable pub field : List ℕ → Parameter → Value
 field r p = typed (row p .kind) (numberAt (placeOf p) (widthOf (row p .kind)) r)
 
--- ---- Which records are accepted: a value out of range or a false validity byte spoils the whole store
+-- ---- Which records are accepted: those with every value in its range and no false validity byte. One that is not makes the whole image a bad one
 
 -- a Node-ID
 abbrev pub nodeId : ℕ → Bool
@@ -85,7 +85,7 @@ ok g r = eqb (length r) 0 || (eqb (length r) (sizeOfRecord g) && soundRecord g r
 unfoldable pub placeIn : ℕ → List ℕ → ℕ
 placeIn at r = cond (eqb (length r) 0) 0xffff at
 
--- the records packed from byte 0 in the order N, C, A, zeros to byte 55
+-- N, C and A side by side, and what is left of the first 56 bytes filled with zeros
 unfoldable pub packed : List ℕ → List ℕ → List ℕ → List ℕ
 packed n c a = n ++ c ++ a ++ replicate (56 - (length n + length c + length a)) 0
 
@@ -93,13 +93,13 @@ packed n c a = n ++ c ++ a ++ replicate (56 - (length n + length c + length a)) 
 unfoldable pub placed : List ℕ → List ℕ → List ℕ → List ℕ
 placed n c a =
     packed n c a
-    ++ le 2 (placeIn (length n) c)
-    ++ le 2 (placeIn (length n + length c) a)
-    ++ le 2 (placeIn 0 n)
+    ++ lowBytes 2 (placeIn (length n) c)
+    ++ lowBytes 2 (placeIn (length n + length c) a)
+    ++ lowBytes 2 (placeIn 0 n)
 
 -- the image: the CRC of all that comes last
 unfoldable pub build : List ℕ → List ℕ → List ℕ → List ℕ
-build n c a = let front = placed n c a in front ++ le 2 (crcOf front)
+build n c a = let front = placed n c a in front ++ lowBytes 2 (crcOf front)
 
 -- ---- Reading an image
 
@@ -133,7 +133,7 @@ abbrev pub savedIf : Bool → List ℕ → List ℕ → List ℕ → Saved
 savedIf true n c a = good n c a
 savedIf false n c a = nothing
 
--- any other content: nothing is saved
+-- what 64 bytes have saved: their records where they are good, else none
 unfoldable pub read : List ℕ → Saved
 read image = savedIf (isGood image) (nIn image) (cIn image) (aIn image)
 
@@ -168,15 +168,16 @@ abbrev pub factoryPlace : Group → ℕ
 factoryPlace C = 0
 factoryPlace A = sizeOfRecord C
 
--- a group at a load: that part of the store or, where it is absent, of a factory block
+-- the record that a load takes for a group: the saved one, else the one in a factory block
 abbrev pub groupOf : Group → List ℕ → Saved → List ℕ
 groupOf g block sv = orElse (saved g sv) (part (factoryPlace g) (sizeOfRecord g) block)
 
--- that of the active ID
+-- with the factory block that is built for an ID
 unfoldable pub groupFrom : Group → ℕ → Saved → List ℕ
 groupFrom g id sv = groupOf g (factory id) sv
 
--- the COB-ID rule ("NMT, time, SYNC"): with a C that was saved under another ID these take their defaults, and that of 13FEh is 0
+-- the COB-ID rule ("NMT, time, SYNC"): what was chosen for one ID does not serve another. These come from the defaults where C was saved under
+-- another ID than the one that becomes active; the default of 13FEh is 0
 abbrev pub followsId : Parameter → Bool
 followsId p = among (P1301s5 ∷ P1301s6 ∷ P13FE ∷ []) p
 
@@ -190,7 +191,7 @@ loaded id sv p =
 unfoldable pub addressFrom : Saved → Address
 addressFrom sv = let r = orElse (savedN sv) (1 ∷ 3 ∷ []) in record { id = byteAt 0 r; bit = byteAt 1 r }
 
--- ---- Writing: always the whole image anew, which keeps the other records of a good store
+-- ---- Writing: an image is always built from all its records, so what a good store has besides goes into the next one
 
 -- the record of a group, where r gives those of these groups and the others are kept
 abbrev pub renewedRecord : Groups → (Group → List ℕ) → Saved → Group → List ℕ

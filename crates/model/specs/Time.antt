@@ -16,7 +16,7 @@ use Rattle.model.specs.declared.Core.{Core}
 use Rattle.model.specs.declared.Sending.{Sending}
 use Rattle.model.specs.declared.State.{State}
 use Rattle.model.specs.Choice.{_⇒_, firstHit}
-use Rattle.model.specs.Bytes.{le, within}
+use Rattle.model.specs.Bytes.{lowBytes, within}
 use Rattle.model.specs.Clock.{next, fires, firesUnlessOff}
 use Rattle.model.specs.Frames.{frame, full, when, heartbeats, tpdos, emcys}
 use Rattle.model.specs.Settings.{among}
@@ -35,7 +35,7 @@ restartHeartbeat c = let t = c .timers in withTimers c (timers (t .clock) (t .cl
 abbrev pub restartSrdo : Core → Core
 restartSrdo c = let t = c .timers in withTimers c (timers (t .clock) (t .heartbeat) (t .tpdo) (t .clock))
 
--- one of the TPDO forgets earlier samples and SYNCs too
+-- with its timer the TPDO loses what it remembers: the SYNCs that were counted, and that a sample came
 abbrev pub restartTpdo : Core → Core
 restartTpdo c = let t = c .timers in withTpdo (withTimers c (timers (t .clock) (t .heartbeat) (t .clock) (t .srdo))) (sending 0 false)
 
@@ -61,18 +61,18 @@ heartbeatFrame s = frame (heartbeats + idOf s) (s .core .nmt ∷ [])
 
 -- TPDO: the integer PV
 unfoldable pub tpdoFrame : State → Frame
-tpdoFrame s = frame (tpdos + idOf s) (le 4 (integerPv s .bits))
+tpdoFrame s = frame (tpdos + idOf s) (lowBytes 4 (integerPv s .bits))
 
 -- SRDO: the bits of PV on the first COB-ID, their inverse on the second
 unfoldable pub srdoFirst : State → Frame
-srdoFirst s = frame (communication s .srdo .first) (le 4 (pvBits s))
+srdoFirst s = frame (communication s .srdo .first) (lowBytes 4 (pvBits s))
 
 unfoldable pub srdoSecond : State → Frame
-srdoSecond s = frame (communication s .srdo .second) (le 4 (pvInverse s))
+srdoSecond s = frame (communication s .srdo .second) (lowBytes 4 (pvInverse s))
 
 -- EMCY: the code, the error register, five zeros
 unfoldable pub emcyFrame : State → Frame
-emcyFrame s = full (emcys + idOf s) (le 2 (cond (capped s) 0xff01 0) ++ (errorRegister s ∷ []))
+emcyFrame s = full (emcys + idOf s) (lowBytes 2 (cond (capped s) 0xff01 0) ++ (errorRegister s ∷ []))
 
 -- ---- What a transmission type sends at
 
@@ -132,7 +132,7 @@ fired h t r c =
     (timers now (startAfter h now (c .timers .heartbeat)) (startAfter t now (c .timers .tpdo)) (startAfter r now (c .timers .srdo))))
     (sending (c .tpdo .syncs) (not t && c .tpdo .sample))
 
--- what is sent then, in this order; while capped an SRDO period passes unsent
+-- what is sent then, in this order; a capped reading goes out in no pair, though the period is over
 abbrev pub firing : Bool → Bool → Bool → State → List Frame
 firing h t r s =
     when h (heartbeatFrame s)

@@ -9,7 +9,7 @@ use Rattle.model.specs.declared.Parameter.{Parameter}
 use Rattle.model.specs.declared.Parameter.the-variants.{P1301s1, P1301s2, P1301s3, P1301s5, P1301s6, P13FE, P13FF, P6121, P6123, P6124, P6132, P51FE, P51FF}
 use Rattle.model.specs.declared.Group.{Group}
 use Rattle.model.specs.declared.Group.the-variants.{C, A}
-use Rattle.model.specs.Bytes.{le}
+use Rattle.model.specs.Bytes.{lowBytes}
 use Rattle.model.specs.Signature.{crcOf}
 use Rattle.model.specs.Values.{numberOf}
 use Rattle.model.specs.Settings.{row, rows, same, among, bytesOf, inRanges}
@@ -40,7 +40,7 @@ secondMapping = 0x50300220
 
 -- what C signs after its parameters: the number of mappings, and each behind its sub
 abbrev pub mappings : Group → List ℕ
-mappings C = 2 ∷ 1 ∷ le 4 firstMapping ++ (2 ∷ le 4 secondMapping)
+mappings C = 2 ∷ 1 ∷ lowBytes 4 firstMapping ++ (2 ∷ lowBytes 4 secondMapping)
 mappings A = []
 
 -- the signature of a group is the CRC of what it signs
@@ -58,13 +58,13 @@ unfoldable pub valid : Group → (Parameter → Value) → Bool
 valid C f = signs C f && eqb (numberOf (f P1301s6)) (numberOf (f P1301s5) + 1)
 valid A f = signs A f
 
--- it is A5h
-abbrev pub marked : Group → (Parameter → Value) → Bool
-marked g f = eqb (numberOf (f (validityOf g))) A5h
+-- it vouches: it is A5h
+abbrev pub vouched : Group → (Parameter → Value) → Bool
+vouched g f = eqb (numberOf (f (validityOf g))) A5h
 
--- it is not false: A5h only if valid
+-- where it vouches, it does so rightly
 abbrev pub honest : Group → (Parameter → Value) → Bool
-honest g f = not (marked g f) || valid g f
+honest g f = not (vouched g f) || valid g f
 
 -- a group that may be in force, and may be saved
 unfoldable pub sound : Group → (Parameter → Value) → Bool
@@ -73,9 +73,9 @@ sound g f = inRanges (rows g) f && honest g f
 -- ---- The forced change of a write
 
 -- q is the validity byte that a change of p sets to 0: p is covered, or is the signature
-unfoldable pub unmarks : Parameter → Parameter → Bool
-unmarks p q = let g = row p .group in same q (validityOf g) && (among (covered g) p || same p (signatureOf g))
+unfoldable pub revokes : Parameter → Parameter → Bool
+revokes p q = let g = row p .group in same q (validityOf g) && (among (covered g) p || same p (signatureOf g))
 
--- a value of other bytes than f has: the same bytes again are no change, and 0.0 to -0.0 is one
+-- v has other bytes than f has there: a value written over itself is no change, and -0.0 over 0.0 is one
 abbrev pub changes : Parameter → Value → (Parameter → Value) → Bool
 changes p v f = not (eqb (numberOf v) (numberOf (f p)))

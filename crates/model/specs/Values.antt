@@ -8,7 +8,7 @@ use Rattle.model.specs.declared.Value.{Value}
 use Rattle.model.specs.declared.Value.the-variants.{U8, U16, U32, Integer32, Real32}
 use Rattle.model.specs.declared.Kind.{Kind}
 use Rattle.model.specs.declared.Kind.the-variants as K
-use Rattle.model.specs.Bytes.{le}
+use Rattle.model.specs.Bytes.{lowBytes}
 
 -- how many bytes a type has
 abbrev pub widthOf : Kind → ℕ
@@ -44,7 +44,7 @@ typed K.Real32 n = Real32 (ofBits binary32 n)
 
 -- a value's bytes, low first, as many as its type has
 abbrev pub encoded : Value → List ℕ
-encoded v = le (widthOf (kindOf v)) (numberOf v)
+encoded v = lowBytes (widthOf (kindOf v)) (numberOf v)
 
 -- the value of a type in the first of some bytes that make the number n
 abbrev pub decoded : Kind → ℕ → Value

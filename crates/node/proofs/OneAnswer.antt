@@ -6,9 +6,8 @@ use Prim.Native.Nat.{ℕ}
 use Rattle.model.specs.declared.Identity.{Identity}
 use Rattle.model.specs.declared.State.{State}
 use Rattle.model.specs.declared.Answer.{Answer}
-use Rattle.model.specs.Step.{Answered, eventAnswer, powerOnAnswer}
+use Rattle.model.specs.Step.{Answered, eventAnswer, powerOnAnswer, Gives}
 use Rattle.laws.proofs.OneAnswer.{one-answer, one-power-on}
-use Rattle.node.specs.Gives.{Gives}
 
 -- all that a call hands back and leaves
 abbrev whole : Answer → List ℕ → List ℕ → Answered

@@ -24,7 +24,7 @@ use Rattle.model.specs.Service.{service}
 use Rattle.model.specs.Time.{ticked, tickFrames, sampled, synced, syncFrames, remoteAnswered, remoteFrames}
 use Rattle.model.specs.Nmt.{isFor, resetAsked, nmtChange, commanded}
 use Rattle.model.specs.Rules.{rules, ruleUpload}
-use Rattle.model.specs.Step.{Outcome, refusal, powerOnRefusal, changeOf, reply, heard, coreAfter, booted, changed, reports, served, step, unborn, powerOn, zeroStore, turnedAway, refused, given, eventAnswer, powerOnAnswer}
+use Rattle.model.specs.Step.{Outcome, refusal, powerOnRefusal, changeOf, reply, heard, coreAfter, booted, changed, reports, served, step, unborn, powerOn, zeroStore, turnedAway, refused, given, eventAnswer, powerOnAnswer, Gives}
 use Rattle.laws.proofs.Tests.{within-is, cond-case, hit-case}
 use Rattle.laws.proofs.Loading.{address-ok}
 use Rattle.laws.proofs.Allowed.{change-allowed}
@@ -43,7 +43,7 @@ use Rattle.output.specs.declared.Sent.{Sent}
 use Rattle.output.specs.Sent.{Done, Leaves, emcyOf, reportedNow}
 use Rattle.output.proofs.Ticks.{laid-as}
 use Rattle.node.proofs.Quiet.{movesOf, calm}
-use Rattle.node.specs.Gives.{Gives, left, asked, keptIn, Turning}
+use Rattle.node.specs.Parts.{left, asked, keptIn, Turning}
 
 -- the load of a power-on
 abbrev pub firstLoad : List ℕ → Change

@@ -12,7 +12,7 @@ use Rattle.model.specs.Rules.{rules}
 use Rattle.model.specs.Step.{reports, heard}
 use Rattle.laws.proofs.Tests.{cond-case}
 use Rattle.laws.proofs.Count.{quiet-state}
-use Rattle.node.specs.Gives.{keptIn}
+use Rattle.node.specs.Parts.{keptIn}
 
 -- FV and the NMT state are what EMCY is judged by
 abbrev pub movesOf : Service → Bool

@@ -19,7 +19,7 @@ use model::Timers;
 use model::Upload;
 use nmt::commanded;
 use output::Sent;
-use output::judge;
+use output::emcy_after;
 use output::remote;
 use output::replied;
 use output::report;
@@ -39,8 +39,8 @@ use step::ask::sdo_heard;
 use step::change::alters;
 use step::change::booted;
 use step::change::core_after;
-use step::change::keep;
-use step::change::settled;
+use step::change::settings_after;
+use step::change::store_after;
 use store::load::address;
 use store::saved::saved_sizes;
 use time::frames::silent;
@@ -50,10 +50,11 @@ ghost use lib.ListN.{length};
 ghost use Rattle.model.specs.declared.Service.{Service};
 ghost use Rattle.model.specs.declared.Service.the-variants as Service;
 ghost use Rattle.model.specs.Step as Step;
+ghost use Rattle.model.specs.Step.{Gives};
 ghost use Rattle.lss.specs.Told.{partOf};
 ghost use Rattle.rules.specs.Fit.{Fit};
 ghost use Rattle.output.specs.Sent.{Leaves};
-ghost use Rattle.node.specs.Gives.{Gives, left, IsReply, Turning, Turned};
+ghost use Rattle.node.specs.Parts.{left, IsReply, Turning, Turned};
 
 // ---- A service that leaves the parameters
 
@@ -100,15 +101,15 @@ fn turned(
     ensures { λ r. ⌜ ((v : Service) → h ≡ Step.heard v s → Turned c reply v s (now (store .entry)) (now (out .entry)) (now (out .exit)) r) ⌝ }
 {
     let old = s.settings;
-    let settings = settled(c, old, store, z);
+    let settings = settings_after(c, old, store, z);
     let was = s.core;
     let mut core = core_after(c, h, was, settings, store, z);
     let application = settings.application;
-    let judged = judge(application, core);
+    let told = emcy_after(application, core);
     let boot = booted(c);
-    let emcy = judged.emcy;
+    let emcy = told.emcy;
     let count = send(reply, boot, emcy, out);
-    core.reported = judged.reported;
+    core.reported = told.reported;
     let identity = s.identity;
     let state = State {
         identity,
@@ -131,7 +132,7 @@ fn altered(asked: Asked, h: Core, s: State, out: &mut [u8], store: &mut [u8]) ->
     let z = asked.sizes;
     let reply = asked.reply;
     let answer = turned(c, z, reply, h, s, out, store);
-    keep(c, s, store);
+    store_after(c, s, store);
     answer
 }
 
@@ -248,12 +249,12 @@ pub fn event(event: &[u8], state: State, out: &mut [u8], store: &mut [u8]) -> An
             if alters(c) {
                 return altered(asked, h, state, out, store);
             }
-            keep(c, state, store);
+            store_after(c, state, store);
             let reply = asked.reply;
             answered(replied(reply, h, out), state)
         }
         Service::Lss(request) => {
-            keep(ask_lss(request, state), state, store);
+            store_after(ask_lss(request, state), state, store);
             answered(lss_sent(request, state, out), state)
         }
     }

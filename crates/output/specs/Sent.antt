@@ -11,7 +11,7 @@ use Rattle.model.specs.Parts.{withCore, withReported}
 use Rattle.model.specs.Time.{emcyDue, emcyFrame}
 use Rattle.model.specs.Step.{done, reportedAfter}
 use Rattle.wire.specs.Laid.{Laid}
-use Rattle.output.specs.declared.Judged.{Judged}
+use Rattle.output.specs.declared.Reported.{Reported}
 use Rattle.output.specs.declared.Sent.{Sent}
 
 -- these frames went out, and this state comes back
@@ -32,6 +32,6 @@ emcyOf t = when (emcyDue t) (emcyFrame t)
 abbrev pub reportedNow : State → State
 reportedNow t = withCore t (withReported (t .core) (reportedAfter (emcyDue t) t))
 
-pub record IsJudged (t : State) (r : Judged) : Type 0 where
+pub record IsReported (t : State) (r : Reported) : Type 0 where
   pub emcy : framesOf (r .emcy) ≡ emcyOf t
   pub reported : r .reported ≡ reportedAfter (emcyDue t) t

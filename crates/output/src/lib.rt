@@ -37,12 +37,12 @@ ghost use Rattle.model.specs.Time as Time;
 ghost use Rattle.wire.specs.Laid.{Laid};
 ghost use Rattle.time.specs.Told.{dueOf};
 ghost use Rattle.rules.specs.Fit.{Fit};
-ghost use Rattle.output.specs.Sent.{Leaves, emcyOf, reportedNow, IsJudged};
+ghost use Rattle.output.specs.Sent.{Leaves, emcyOf, reportedNow, IsReported};
 
 // ---- EMCY
 
 // EMCY where it is due, and the reported flag after that.
-pub struct Judged {
+pub struct Reported {
     pub emcy: Reply,
     pub reported: bool,
 }
@@ -54,10 +54,10 @@ fn reported_after(due: bool, capped: bool, reported: bool) -> bool
     if due { capped } else { reported }
 }
 
-// A state is judged by its present reading: of its parameters only those of group A count.
-pub fn judge(a: Application, c: Core) -> Judged
+// By the present reading: of the parameters only those of group A count.
+pub fn emcy_after(a: Application, c: Core) -> Reported
     requires { ⌜ (a .digits ≤ 4) × (c .active .id ≤ 127) ⌝ }
-    ensures { λ r. ⌜ ((t : State) → t .settings .application ≡ a → t .core ≡ c → IsJudged t r) ⌝ }
+    ensures { λ r. ⌜ ((t : State) → t .settings .application ≡ a → t .core ≡ c → IsReported t r) ⌝ }
 {
     let scaling = a.scaling;
     let fv = c.fv;
@@ -66,7 +66,7 @@ pub fn judge(a: Application, c: Core) -> Judged
     let frame = emcy_frame(c.active.id, integer.capped);
     let emcy = Reply { send, frame };
     let reported = reported_after(send, integer.capped, c.reported);
-    Judged { emcy, reported }
+    Reported { emcy, reported }
 }
 
 // The reply and the boot-up go out, and last the EMCY; how many that were.
@@ -106,10 +106,10 @@ pub fn report(s: State, h: Core, out: &mut [u8]) -> Sent
     ensures { λ r. ⌜ Leaves (emcyOf (withCore s h)) (reportedNow (withCore s h) .core) (now (out .entry)) (now (out .exit)) r ⌝ }
 {
     let application = s.settings.application;
-    let judged = judge(application, h);
+    let told = emcy_after(application, h);
     let mut core = h;
-    core.reported = judged.reported;
-    let emcy = judged.emcy;
+    core.reported = told.reported;
+    let emcy = told.emcy;
     replied(emcy, core, out)
 }
 

@@ -5,7 +5,7 @@ use model::Answer;
 use model::Identity;
 use model::State;
 ghost use Rattle.model.specs.Step as Step;
-ghost use Rattle.node.specs.Gives.{Gives};
+ghost use Rattle.model.specs.Step.{Gives};
 
 // Power-on: called once, before any event.
 #[no_mangle]

@@ -13,9 +13,8 @@ use Rattle.model.specs.declared.Identity.{Identity}
 use Rattle.model.specs.declared.Frame.{Frame}
 use Rattle.model.specs.declared.State.{State}
 use Rattle.model.specs.Frames.{overlay}
-use Rattle.model.specs.Step.{done, outputSize, refusal, powerOnRefusal, step, powerOn, zeroStore, given, refused, eventAnswer, powerOnAnswer}
+use Rattle.model.specs.Step.{done, outputSize, refusal, powerOnRefusal, step, powerOn, zeroStore, given, refused, eventAnswer, powerOnAnswer, Gives}
 use Rattle.model.specs.Run.{powered, called, begun, continued}
-use Rattle.node.specs.Gives.{Gives}
 use Rattle.text.specs.Written.{Written}
 use Rattle.text.specs.Sent.{framesIn, added, Shown}
 use Rattle.text.proofs.Sent.{line-added}

@@ -8,14 +8,14 @@ use Rattle.model.specs.declared.Group.the-variants.{C, A}
 use Rattle.model.specs.declared.Settings.{Settings}
 use Rattle.model.specs.declared.Communication.{Communication}
 use Rattle.model.specs.declared.Application.{Application}
-use Rattle.model.specs.Bytes.{unle, part, numberAt}
+use Rattle.model.specs.Bytes.{asNumber, part, numberAt}
 use Rattle.model.specs.Settings.{rows, altered}
 use Rattle.model.specs.Store.{placeOf, field}
 use Rattle.wire.proofs.Numbers.{get-law}
 use Rattle.records.specs.Decoded.{fromRecord, scalingIn}
 
 -- the number of one byte is that byte
-one-byte : (at : ℕ) (l : List ℕ) → unle (part at 1 l) ≡ getD l at 0
+one-byte : (at : ℕ) (l : List ℕ) → asNumber (part at 1 l) ≡ getD l at 0
 one-byte at l = omega (arith, get-law 1 at l)
 
 -- a field of one byte, as the definition reads it and as code does: the same

@@ -1,4 +1,4 @@
-// The state rules, and the refusals of the two calls: the lowest number that applies is given.
+// The state rules, and the refusals of the two calls: of the numbers that apply the first in the table counts.
 use model::State;
 use nmt::start_obeyed;
 use settings::validity::honest_a;
@@ -50,8 +50,8 @@ fn rule_ranges(s: State) -> bool
 }
 
 // No false validity byte.
-fn rule_marks(s: State) -> bool
-    ensures { λ r. ⌜ r ≡ Rules.ruleMarks s ⌝ }
+fn rule_honest(s: State) -> bool
+    ensures { λ r. ⌜ r ≡ Rules.ruleHonest s ⌝ }
 {
     let k = s.settings;
     honest_c(k) & honest_a(k)
@@ -132,12 +132,12 @@ pub fn rules(s: State) -> bool
     if !rule_reported(s) {
         return false;
     }
-    rule_marks(s)
+    rule_honest(s)
 }
 
 // ---- The refusals
 
-// A frame whose CAN-ID, flag or length is none.
+// A frame whose CAN-ID, flag or length is out of range.
 fn bad_frame(event: &[u8]) -> bool
     ensures { λ r. ⌜ r ≡ Step.badFrameIn (now (event .entry)) ⌝ }
 {

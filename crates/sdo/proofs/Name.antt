@@ -10,7 +10,7 @@ use Rattle.model.specs.declared.Entry.the-variants.{Fixed, Name, Shown, Setting
 use Rattle.model.specs.declared.Found.{Found}
 use Rattle.model.specs.declared.Found.the-variants.{NoSub, At}
 use Rattle.model.specs.Parts.{noUpload, openUpload}
-use Rattle.model.specs.Dictionary.{Sub, Place, _▹_, _▸_, single, several, objects, subIn, foundIn, find}
+use Rattle.model.specs.Dictionary.{Sub, Place, _holds_, _▸_, single, several, objects, subIn, foundIn, find}
 use Rattle.model.specs.Sdo.{opened}
 
 -- the index of the name
@@ -47,7 +47,7 @@ shut (LoadWord gs) h = refl
 -- no sub of a record is the name
 abbrev others : List Sub → Bool
 others [] = true
-others (k ▹ e ∷ es) = other e && others es
+others (k holds e ∷ es) = other e && others es
 
 -- none of these objects is, but for a plain one at 1008h
 abbrev alone : List Place → Bool
@@ -57,7 +57,7 @@ alone (k ▸ several highest es ∷ os) = others es && alone os
 
 in-subs : (sub : ℕ) (es : List Sub) → others es ≡ true → Shut (subIn sub es)
 in-subs sub [] h = refl
-in-subs sub (k ▹ e ∷ es) h =
+in-subs sub (k holds e ∷ es) h =
     let both = and-eq-true-iff (other e) (others es) .0 h in
     by-test (eqb sub k) (At e) (subIn sub es) (λ i. shut e (both .0)) (in-subs sub es (both .1))
 

@@ -10,22 +10,22 @@ use Rattle.model.specs.declared.Groups.{Groups}
 use Rattle.model.specs.declared.Change.the-variants.{Write, TakeOut}
 use Rattle.model.specs.declared.Settings.{Settings}
 use Rattle.model.specs.Settings.{inForce, stays, whole}
-use Rattle.model.specs.Validity.{unmarks, changes}
+use Rattle.model.specs.Validity.{revokes, changes}
 use Rattle.model.specs.Store.{Saved, nothing}
-use Rattle.model.specs.Changes.{unmarked, effect, applied}
-use Rattle.settings.specs.Put.{put, unmark}
+use Rattle.model.specs.Changes.{revoked, effect, applied}
+use Rattle.settings.specs.Put.{put, revoke}
 
 -- a validity byte that goes to 0 where a test holds
-pub zero-if-now : (b : Bool) (n : ℕ) → whole (cond b unmarked stays) n ≡ cond b 0 n
+pub zero-if-now : (b : Bool) (n : ℕ) → whole (cond b revoked stays) n ≡ cond b 0 n
 zero-if-now true n = refl
 zero-if-now false n = refl
 
 -- a write in two steps
 abbrev pub twoSteps : Parameter → Value → Settings → Settings
-twoSteps p v k = let b = changes p v (inForce k) in unmark (unmarks p P13FE && b) (unmarks p P51FE && b) (put p v k)
+twoSteps p v k = let b = changes p v (inForce k) in revoke (revokes p P13FE && b) (revokes p P51FE && b) (put p v k)
 
 pub in-two-steps : (p : Parameter) (v : Value) (k : Settings) → twoSteps p v k ≡ applied (Write p v) k nothing
-unfolding put unmark unmarks effect applied
+unfolding put revoke revokes effect applied
 in-two-steps P1017 v k = refl
 in-two-steps P1301s1 v k = refl
 in-two-steps P1301s2 v k = refl

@@ -13,7 +13,7 @@ ghost use Rattle.model.specs.declared.Parameter.the-variants.{P13FE, P51FE};
 ghost use Rattle.model.specs.declared.Change.the-variants.{Write, TakeOut};
 ghost use Rattle.model.specs.Values.{kindOf};
 ghost use Rattle.model.specs.Settings.{row};
-ghost use Rattle.model.specs.Validity.{unmarks};
+ghost use Rattle.model.specs.Validity.{revokes};
 ghost use Rattle.model.specs.Store.{nothing};
 ghost use Rattle.model.specs.Changes.{applied};
 ghost use Rattle.settings.specs.Put as Put;
@@ -149,8 +149,8 @@ fn put(k: Settings, p: Parameter, v: Value) -> Settings
 // ---- The forced changes
 
 // Whether a change of a parameter sets 13FEh to 0: it is covered by 13FFh:1, or is that signature.
-fn unmarks_c(p: Parameter) -> bool
-    ensures { λ r. ⌜ r ≡ unmarks p P13FE ⌝ }
+fn revokes_c(p: Parameter) -> bool
+    ensures { λ r. ⌜ r ≡ revokes p P13FE ⌝ }
 {
     match p {
         Parameter::P1301s1
@@ -164,8 +164,8 @@ fn unmarks_c(p: Parameter) -> bool
 }
 
 // Whether it sets 51FEh to 0.
-fn unmarks_a(p: Parameter) -> bool
-    ensures { λ r. ⌜ r ≡ unmarks p P51FE ⌝ }
+fn revokes_a(p: Parameter) -> bool
+    ensures { λ r. ⌜ r ≡ revokes p P51FE ⌝ }
 {
     match p {
         Parameter::P6121
@@ -185,8 +185,8 @@ fn zero_if(clear: bool, byte: u8) -> u8
 }
 
 // The settings with 13FEh set to 0 where c holds, and 51FEh where a holds.
-fn unmark(k: Settings, c: bool, a: bool) -> Settings
-    ensures { λ r. ⌜ r ≡ Put.unmark c a k ⌝ }
+fn revoke(k: Settings, c: bool, a: bool) -> Settings
+    ensures { λ r. ⌜ r ≡ Put.revoke c a k ⌝ }
 {
     let valid_c = zero_if(c, k.communication.valid);
     let valid_a = zero_if(a, k.application.valid);
@@ -204,9 +204,9 @@ pub fn write(k: Settings, p: Parameter, v: Value) -> Settings
     ensures { λ r. ⌜ r ≡ applied (Write p v) k nothing ⌝ }
 {
     let changed = number_of(v) != number_of(value_of(k, p));
-    let c = unmarks_c(p) & changed;
-    let a = unmarks_a(p) & changed;
-    unmark(put(k, p, v), c, a)
+    let c = revokes_c(p) & changed;
+    let a = revokes_a(p) & changed;
+    revoke(put(k, p, v), c, a)
 }
 
 // The settings after a load word: it sets the validity bytes of its groups to 0, and the other values stay.
@@ -214,8 +214,8 @@ pub fn take_out(k: Settings, gs: Groups) -> Settings
     ensures { λ r. ⌜ r ≡ applied (TakeOut gs) k nothing ⌝ }
 {
     match gs {
-        Groups::Both => unmark(k, true, true),
-        Groups::OnlyC => unmark(k, true, false),
-        Groups::OnlyA => unmark(k, false, true),
+        Groups::Both => revoke(k, true, true),
+        Groups::OnlyC => revoke(k, true, false),
+        Groups::OnlyA => revoke(k, false, true),
     }
 }

@@ -1,4 +1,4 @@
-// The table of the saved parameters: each row's mark, type, range, default and group, and the value in force.
+// The table of the saved parameters: each row's star, type, range, default and group, and the value in force.
 use super::values::float_of;
 use super::values::number_of;
 use model::Application;
@@ -20,7 +20,7 @@ ghost use Rattle.model.specs.Store.{defaultFor};
 
 // ---- The columns
 
-// Whether a parameter is marked *: it is not written while Operational.
+// Whether a parameter has the star *: it is not written while Operational.
 pub fn star(p: Parameter) -> bool
     ensures { λ r. ⌜ r ≡ Table.row p .star ⌝ }
 {

@@ -43,8 +43,8 @@ pub fn ranges_a(k: Settings) -> bool
 
 // ---- Signatures
 
-// Whether 13FEh may be A5h: 13FFh:1 is the CRC of 1301h:1, 2, 3, 5, 6, then the number of mappings, and each of 1381h behind its sub;
-// and the second COB-ID follows the first. That sum is wide: a COB-ID may be any 32 bits.
+// Whether C's signature is right: the SRDO's five parameters are signed, and behind them how many mappings there are and what each one is. And
+// whether the COB-IDs are a pair; the sum is wide, since a COB-ID may be any 32 bits.
 // It takes what is signed and no more: all the settings, by value, would be laid out on the stack anew at each call.
 fn signed_c(srdo: SrdoSettings, signature: u16) -> bool
     ensures { λ r. ⌜ r ≡ Validity.valid G.C (Table.inForce (withC srdo signature)) ⌝ }
@@ -80,7 +80,7 @@ fn signed_c(srdo: SrdoSettings, signature: u16) -> bool
     (signature == crc(&bytes)) & (srdo.second as u64 == srdo.first as u64 + 1)
 }
 
-// Whether 51FEh may be A5h: 51FFh:1 is the CRC of 6121h, 6123h, 6124h, 6132h. It takes no more than these either.
+// Whether A's signature is right: scaling points, offset and digits are signed. It takes no more than these either.
 fn signed_a(scaling: Scaling, digits: u8, signature: u16) -> bool
     ensures { λ r. ⌜ r ≡ Validity.valid G.A (Table.inForce (withA scaling digits signature)) ⌝ }
 {
@@ -124,24 +124,24 @@ pub fn valid_a(k: Settings) -> bool
 }
 
 // Whether 13FEh is A5h.
-pub fn marked_c(k: Settings) -> bool
-    ensures { λ r. ⌜ r ≡ Validity.marked G.C (Table.inForce k) ⌝ }
+pub fn vouched_c(k: Settings) -> bool
+    ensures { λ r. ⌜ r ≡ Validity.vouched G.C (Table.inForce k) ⌝ }
 {
     k.communication.valid == 0xa5
 }
 
 // Whether 51FEh is A5h.
-pub fn marked_a(k: Settings) -> bool
-    ensures { λ r. ⌜ r ≡ Validity.marked G.A (Table.inForce k) ⌝ }
+pub fn vouched_a(k: Settings) -> bool
+    ensures { λ r. ⌜ r ≡ Validity.vouched G.A (Table.inForce k) ⌝ }
 {
     k.application.valid == 0xa5
 }
 
-// Whether 13FEh is A5h only if valid. The signature is computed only where it is asked for, and not by `valid_c`, which would take all the settings.
+// Whether 13FEh, where it vouches, does so rightly. The signature is computed only where it is asked for, and not by `valid_c`, which would take all the settings.
 pub fn honest_c(k: Settings) -> bool
     ensures { λ r. ⌜ r ≡ Validity.honest G.C (Table.inForce k) ⌝ }
 {
-    if marked_c(k) {
+    if vouched_c(k) {
         let srdo = k.communication.srdo;
         return signed_c(srdo, k.communication.signature);
     }
@@ -152,7 +152,7 @@ pub fn honest_c(k: Settings) -> bool
 pub fn honest_a(k: Settings) -> bool
     ensures { λ r. ⌜ r ≡ Validity.honest G.A (Table.inForce k) ⌝ }
 {
-    if marked_a(k) {
+    if vouched_a(k) {
         let scaling = k.application.scaling;
         return signed_a(scaling, k.application.digits, k.application.signature);
     }

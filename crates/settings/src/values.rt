@@ -7,7 +7,7 @@ use reading::signed_of;
 use reading::unsigned_of;
 ghost use mathlib.Core.Path.{_≡_};
 ghost use Prim.Native.Nat.{_≤_};
-ghost use Rattle.model.specs.Bytes.{le};
+ghost use Rattle.model.specs.Bytes.{lowBytes};
 ghost use Rattle.model.specs.Values.{widthOf, kindOf, numberOf, floatOf, decoded};
 ghost use Rattle.settings.specs.Four.{fourBytes};
 
@@ -78,7 +78,7 @@ pub fn decode(k: Kind, d: u32) -> Value
 
 // The four bytes of a number, low byte first.
 pub fn word(n: u32) -> [u8; 4]
-    ensures { λ r. ⌜ r ≡ le 4 n ⌝ }
+    ensures { λ r. ⌜ r ≡ lowBytes 4 n ⌝ }
 {
     let n1 = n / 256;
     let n2 = n1 / 256;

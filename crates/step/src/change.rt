@@ -30,7 +30,7 @@ ghost use Rattle.store.specs.Saved.{Kept};
 ghost use Rattle.step.specs.Asked.{Suits, SizesFor, altersOf};
 
 // The parameters after it. For a load, z are the sizes of what is saved.
-pub fn settled(c: Change, k: Settings, store: &[u8], z: Sizes) -> Settings
+pub fn settings_after(c: Change, k: Settings, store: &[u8], z: Sizes) -> Settings
     requires { ⌜ Suits c × (SizesFor c (now store) z × (length (now store) ≡ 64)) ⌝ }
     ensures { λ r. ⌜ r ≡ applied c k (read (now (store .entry))) ⌝ }
 {
@@ -91,7 +91,7 @@ pub fn booted(c: Change) -> Reply
 }
 
 // The store after it: a save puts records in, a load word takes them out, 17h puts the pending pair in.
-pub fn keep(c: Change, s: State, store: &mut [u8])
+pub fn store_after(c: Change, s: State, store: &mut [u8])
     requires { ⌜ length (now store) ≡ 64 ⌝ }
     ensures { λ _. ⌜ now (store .exit) ≡ stored c s (now (store .entry)) ⌝ }
 {

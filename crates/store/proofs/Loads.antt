@@ -14,7 +14,7 @@ use Rattle.model.specs.declared.Groups.the-variants.{Both, OnlyC, OnlyA}
 use Rattle.model.specs.declared.Change.the-variants.{Load}
 use Rattle.model.specs.declared.Settings.{Settings}
 use Rattle.model.specs.declared.Address.{Address}
-use Rattle.model.specs.Bytes.{le, part, byteAt}
+use Rattle.model.specs.Bytes.{lowBytes, part, byteAt}
 use Rattle.model.specs.Settings.{rows, bytesOf, inForce, altered, made}
 use Rattle.model.specs.Store.{recordOf, Saved, read, savedN, orElse, defaultFor, factory, groupOf, groupFrom, loaded, addressFrom}
 use Rattle.model.specs.Changes.{effect, applied}
@@ -69,7 +69,7 @@ other-id id r k h = rw h
 -- ---- The groups, each from its part, with the factory block for the active ID
 
 pub length-factory : (id : ℕ) → length (factory id) ≡ 38
-unfolding factory recordOf rows bytesOf le
+unfolding factory recordOf rows bytesOf lowBytes
 length-factory id = refl
 
 pub only-c : {gs : Groups} (id : ℕ) (k : Settings) (sv : Saved) (block r : List ℕ) → gs ≡ OnlyC → block ≡ factory id

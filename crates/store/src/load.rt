@@ -1,4 +1,4 @@
-// Loads: a group is that part of the store or, where it is absent, of the factory block.
+// Loads: what a group is read from, its record in the store or, for want of one, the factory block.
 use image::Sizes;
 use model::Address;
 use model::Groups;
@@ -92,7 +92,7 @@ fn follow_id(id: u8, k: Settings) -> Settings
     r
 }
 
-// The settings k, with group C of a record. The COB-ID rule: with a C that was saved under another ID, the COB-IDs follow the active one.
+// The settings k, with group C of a record. The COB-ID rule: what was chosen for another ID does not serve this one.
 fn load_c(r: &[u8], id: u8, k: Settings) -> Settings
     ensures { λ t. ⌜ t ≡ altered (forId Group.C id (now (r .entry))) k ⌝ }
 {

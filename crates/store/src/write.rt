@@ -1,4 +1,4 @@
-// Writing: always the whole image anew, which keeps the other records of a good store.
+// Writing: an image is always built from all its records, so what a good store has besides goes into the next one.
 use super::saved::saved_sizes;
 use image::write_image;
 use model::Address;

@@ -8,7 +8,7 @@ use native.Mathlib.Nat.{eq-or-lt-of-le}
 use lib.ListN.{length, take, drop, getD}
 use lib.Seq.{take-all, drop-drop}
 use Rattle.model.specs.declared.Frame.{Frame}
-use Rattle.model.specs.Bytes.{unle, part}
+use Rattle.model.specs.Bytes.{asNumber, part}
 use Rattle.model.specs.Frames.{frameBytes, laid, overlay}
 use Rattle.model.specs.Program.{hexByte, hexBytes, frameText, framesTexts, lineText}
 use Rattle.model.specs.Run.{Line, numberIn, sentIn}
@@ -51,7 +51,7 @@ counted-same r len l e h k =
 
 -- out of its bytes
 pub frame-back : (f : Frame) (rest : List ℕ) → f .id < 4096 → frameIn (frameBytes f ++ rest) ≡ f
-unfolding frameIn unle part
+unfolding frameIn asNumber part
 frame-back f rest h =
     let e : (f .id % 256 + (f .id / 256 + 0 * 256) * 256) % 4096 ≡ f .id = omega arith in
     ap

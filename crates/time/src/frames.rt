@@ -11,7 +11,7 @@ ghost use mathlib.Core.Bool.{cond, not, _&&_};
 ghost use mathlib.Core.List.{[], _∷_, _++_};
 ghost use Prim.Native.Nat.{_+_, _-_, _≤_};
 ghost use lib.Dec.{eqb};
-ghost use Rattle.model.specs.Bytes.{le};
+ghost use Rattle.model.specs.Bytes.{lowBytes};
 ghost use Rattle.model.specs.Frames.{frame, full, when, framesOf, heartbeats, tpdos, emcys};
 ghost use Rattle.model.specs.Parts.{Stopped};
 ghost use Rattle.model.specs.Time as Time;
@@ -45,7 +45,7 @@ pub fn reading_of(s: State) -> Reading
 
 // A frame of four bytes, low first.
 fn four_bytes(id: u16, x: u32) -> Frame
-    ensures { λ r. ⌜ r ≡ frame id (le 4 x) ⌝ }
+    ensures { λ r. ⌜ r ≡ frame id (lowBytes 4 x) ⌝ }
 {
     let x1 = x / 256;
     let x2 = x1 / 256;
@@ -86,7 +86,7 @@ pub fn heartbeat_frame(id: u8, nmt: u8) -> Frame
 // TPDO: the integer PV.
 pub fn tpdo_frame(id: u8, integer: u32) -> Frame
     requires { ⌜ id ≤ 127 ⌝ }
-    ensures { λ r. ⌜ r ≡ frame (tpdos + id) (le 4 integer) ⌝ }
+    ensures { λ r. ⌜ r ≡ frame (tpdos + id) (lowBytes 4 integer) ⌝ }
 {
     four_bytes(0x180 + id as u16, integer)
 }
@@ -126,7 +126,7 @@ pub fn tpdo_reply(send: bool, s: State) -> Reply
 // SRDO: the bits of PV on the first COB-ID.
 pub fn srdo_first(cob: u32, bits: u32) -> Frame
     requires { ⌜ cob ≤ 0x180 ⌝ }
-    ensures { λ r. ⌜ r ≡ frame cob (le 4 bits) ⌝ }
+    ensures { λ r. ⌜ r ≡ frame cob (lowBytes 4 bits) ⌝ }
 {
     four_bytes(cob as u16, bits)
 }
@@ -134,7 +134,7 @@ pub fn srdo_first(cob: u32, bits: u32) -> Frame
 // SRDO: their inverse on the second.
 pub fn srdo_second(cob: u32, bits: u32) -> Frame
     requires { ⌜ cob ≤ 0x180 ⌝ }
-    ensures { λ r. ⌜ r ≡ frame cob (le 4 (0xffffffff - bits)) ⌝ }
+    ensures { λ r. ⌜ r ≡ frame cob (lowBytes 4 (0xffffffff - bits)) ⌝ }
 {
     four_bytes(cob as u16, 0xffff_ffff - bits)
 }
@@ -158,7 +158,7 @@ fn emcy_code(capped: bool) -> u16
 // EMCY: the code, low byte first, and the error register.
 pub fn emcy_frame(id: u8, capped: bool) -> Frame
     requires { ⌜ id ≤ 127 ⌝ }
-    ensures { λ r. ⌜ r ≡ full (emcys + id) (le 2 (cond capped 0xff01 0) ++ (cond capped 0x81 0 ∷ [])) ⌝ }
+    ensures { λ r. ⌜ r ≡ full (emcys + id) (lowBytes 2 (cond capped 0xff01 0) ++ (cond capped 0x81 0 ∷ [])) ⌝ }
 {
     let code = emcy_code(capped);
     Frame {

@@ -1,26 +1,13 @@
 -- Numbers as bytes: one law for reading and one for writing, over every width. A read past the end finds zeros, so that reading asks for no length. Assumes nothing.
 use mathlib.Core.Path.{_≡_, refl, ap, _∙_}
 use mathlib.Core.List.{List, [], _∷_}
-use Prim.Native.Nat.{ℕ, zero, suc, _+_, _*_, _/_, _^_, _≤_, _<_}
+use Prim.Native.Nat.{ℕ, zero, suc, _+_, _*_, _≤_}
 use native.Mathlib.Omega.{arith}
 use native.Mathlib.Numerals.{add-one}
 use lib.ListN.{length, take, drop, getD, set}
 use lib.Seq.{take-nil, sets, sets-eq}
-use Rattle.model.specs.Bytes.{le, unle, part}
+use Rattle.model.specs.Bytes.{asNumber, part}
 use Rattle.wire.specs.Put.{put}
-
-pub length-le : (n x : ℕ) → length (le n x) ≡ n
-unfolding le
-length-le zero x = refl
-length-le (suc n) x = ap suc (length-le n (x / 256))
-
--- n bytes hold every number below 256 ^ n
-pub unle-le : (n x : ℕ) → x < 256 ^ n → unle (le n x) ≡ x
-unfolding le unle
-unle-le zero x h = omega arith
-unle-le (suc n) x h =
-    let e : unle (le n (x / 256)) ≡ x / 256 = unle-le n (x / 256) (omega arith) in
-    omega arith
 
 -- the number of n bytes at a place as code reads it: at, at + 1, (at + 1) + 1 and so on
 abbrev pub numAt : ℕ → ℕ → List ℕ → ℕ
@@ -28,19 +15,19 @@ numAt zero at l = 0
 numAt (suc n) at l = getD l at 0 + numAt n (at + 1) l * 256
 
 -- one byte is read, and the others stand one place further on
-unle-next : (n at : ℕ) (l : List ℕ) → unle (take (suc n) (drop at l)) ≡ getD l at 0 + unle (take n (drop (suc at) l)) * 256
-unfolding unle
-unle-next n zero [] = rw take-nil
-unle-next n zero (x ∷ l) = refl
-unle-next n (suc at) [] = rw take-nil
-unle-next n (suc at) (x ∷ l) = unle-next n at l
+number-next : (n at : ℕ) (l : List ℕ) → asNumber (take (suc n) (drop at l)) ≡ getD l at 0 + asNumber (take n (drop (suc at) l)) * 256
+unfolding asNumber
+number-next n zero [] = rw take-nil
+number-next n zero (x ∷ l) = refl
+number-next n (suc at) [] = rw take-nil
+number-next n (suc at) (x ∷ l) = number-next n at l
 
 -- what each `get` cites at its width
-pub get-law : (n at : ℕ) (l : List ℕ) → unle (part at n l) ≡ numAt n at l
-unfolding unle part
+pub get-law : (n at : ℕ) (l : List ℕ) → asNumber (part at n l) ≡ numAt n at l
+unfolding asNumber part
 get-law zero at l = refl
 get-law (suc n) at l =
-    unle-next n at l ∙ rw (← (add-one at)) (ap (λ (r : ℕ). getD l at 0 + r * 256) (get-law n (at + 1) l))
+    number-next n at l ∙ rw (← (add-one at)) (ap (λ (r : ℕ). getD l at 0 + r * 256) (get-law n (at + 1) l))
 
 -- a run of stores as code makes it: at, at + 1, (at + 1) + 1 and so on
 abbrev pub stores : List ℕ → ℕ → List ℕ → List ℕ

@@ -2,7 +2,7 @@
 ghost use mathlib.Core.Path.{_≡_};
 ghost use Prim.Native.Nat.{_+_, _≤_, _<_};
 ghost use lib.ListN.{length, replicate};
-ghost use Rattle.model.specs.Bytes.{le, part, byteAt, numberAt};
+ghost use Rattle.model.specs.Bytes.{lowBytes, part, byteAt, numberAt};
 ghost use Rattle.wire.specs.Put.{put};
 
 // A byte as a wider number. The bound is said too: every sum over it needs it.
@@ -61,7 +61,7 @@ pub fn get32(s: &[u8], at: usize) -> u32
 // A number goes into two bytes.
 pub fn put16(s: &mut [u8], at: usize, x: u16)
     requires { ⌜ at + 2 ≤ length (now s) ⌝ }
-    ensures { λ _. ⌜ now (s .exit) ≡ put at (le 2 x) (now (s .entry)) ⌝ }
+    ensures { λ _. ⌜ now (s .exit) ≡ put at (lowBytes 2 x) (now (s .entry)) ⌝ }
 {
     let x1 = x / 256;
     let a1 = at + 1;
@@ -72,7 +72,7 @@ pub fn put16(s: &mut [u8], at: usize, x: u16)
 // A number goes into four bytes.
 pub fn put32(s: &mut [u8], at: usize, x: u32)
     requires { ⌜ at + 4 ≤ length (now s) ⌝ }
-    ensures { λ _. ⌜ now (s .exit) ≡ put at (le 4 x) (now (s .entry)) ⌝ }
+    ensures { λ _. ⌜ now (s .exit) ≡ put at (lowBytes 4 x) (now (s .entry)) ⌝ }
 {
     let x1 = x / 256;
     let x2 = x1 / 256;

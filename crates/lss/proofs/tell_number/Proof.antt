@@ -1,6 +1,6 @@
--- `lss::tell_number` meets its contract: its divisions are those of `le`. Assumes nothing.
+-- `lss::tell_number` meets its contract: its divisions are those of `lowBytes`. Assumes nothing.
 use mathlib.Core.Path.{refl}
-use Rattle.model.specs.Bytes.{le}
+use Rattle.model.specs.Bytes.{lowBytes}
 use borrow.Author.Needs.{needs}
 use Rattle.lss.proofs.tell_number.Statement.{statement}
 use Rattle.lss.proofs.tell_number.Tie as tie
@@ -18,7 +18,7 @@ cast-t15 : tie.Need-cast-t15
 cast-t15 c = search needs
 
 returns : tie.Need-returns
-unfolding le
+unfolding lowBytes
 returns c = refl
 
 pub tell-number-spec : {M : Type 1} → statement M

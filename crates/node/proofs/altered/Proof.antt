@@ -8,8 +8,8 @@ use Rattle.node.proofs.altered.Tie as tie
 turned-requires : tie.Need-turned-requires
 turned-requires c κs = search needs
 
-keep-requires : tie.Need-keep-requires
-keep-requires c κs = search needs
+store-after-requires : tie.Need-store-after-requires
+store-after-requires c κs = search needs
 
 same-length : tie.Need-same-length
 same-length c = search needs
@@ -22,7 +22,7 @@ returns c =
     let c6 = c .before .before .before .before .before .before in
     let a = c6 .before .before .before .before .before .before .before .args in
     λ v heard answer.
-    gives-served (a .asked .change) v (a .s) (a .store .now) (answer .other) (answer .frames) refl refl (c .before .before .keep .ensures) (c6 .turned .ensures v heard)
+    gives-served (a .asked .change) v (a .s) (a .store .now) (answer .other) (answer .frames) refl refl (c .before .before .store-after .ensures) (c6 .turned .ensures v heard)
 
 pub altered-spec : {M : Type 1} → statement M
-altered-spec = tie.close (tie.spec turned-requires keep-requires same-length same-length-2 returns)
+altered-spec = tie.close (tie.spec turned-requires store-after-requires same-length same-length-2 returns)

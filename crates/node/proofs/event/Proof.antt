@@ -230,8 +230,8 @@ returns-3 c =
     event-changed (a .event .now) (a .state) (a .out .now) (a .store .now) _ (c16 .refusal .ensures) (c15 .if1 .left) (sym (c12 .v4 .given .1) ∙ c14 .service .ensures) (asked .change)
     (c4 .altered2 .ensures _ (c9 .sdo-heard .ensures) (record { other = refl; frames = asked .frames }))
 
-keep-requires : tie.Need-keep-requires
-keep-requires c κs =
+store-after-requires : tie.Need-store-after-requires
+store-after-requires c κs =
     let c9 = c .before .before .before .before .before .before .before .before .before in
     let c10 = c9 .before in
     let c14 = c10 .before .before .before .before in
@@ -257,8 +257,8 @@ enum-known-v-5 c = search needs
 ask-lss-requires : tie.Need-ask-lss-requires
 ask-lss-requires c κs = search needs
 
-keep-requires-2 : tie.Need-keep-requires-2
-keep-requires-2 c κs =
+store-after-requires-2 : tie.Need-store-after-requires-2
+store-after-requires-2 c κs =
     let c6 = c .before .before .before .before .before .before in
     let c7 = c6 .before in
     let c11 = c7 .before .before .before .before in
@@ -409,7 +409,7 @@ returns-10 c =
     let still = sym (c11 .alters2 .ensures) ∙ c10 .if3 .left in
     rw (c .answered6 .ensures)
     (event-changed (a .event .now) (a .state) (a .out .now) (a .store .now) _ (c19 .refusal .ensures) (c18 .if1 .left) (sym (c15 .v4 .given .1) ∙ c17 .service .ensures) (asked .change)
-    (gives-calm _ _ (a .state) _ still refl refl (ok .kept) (asked .frames) (c12 .sdo-heard .ensures) (c8 .keep .ensures) (c3 .replied .ensures)))
+    (gives-calm _ _ (a .state) _ still refl refl (ok .kept) (asked .frames) (c12 .sdo-heard .ensures) (c8 .store-after .ensures) (c3 .replied .ensures)))
 
 same-length-13 : tie.Need-same-length-13
 same-length-13 c = search needs
@@ -432,7 +432,7 @@ returns-11 c =
     let told = c9 .ask-lss .ensures (read (a .store .now)) in
     rw (c .answered7 .ensures)
     (event-changed (a .event .now) (a .state) (a .out .now) (a .store .now) _ (c15 .refusal .ensures) (c14 .if1 .left) (sym (c11 .v5 .given .1) ∙ c13 .service .ensures) told
-    (gives-calm _ _ (a .state) _ (rw told (lss-unaltered _ (a .state) _)) refl refl (ok .kept) refl refl (c7 .keep2 .ensures) (c3 .lss-sent .ensures)))
+    (gives-calm _ _ (a .state) _ (rw told (lss-unaltered _ (a .state) _)) refl refl (ok .kept) refl refl (c7 .store-after2 .ensures) (c3 .lss-sent .ensures)))
 
 pub event-spec : {M : Type 1} → statement M
 event-spec =
@@ -475,12 +475,12 @@ event-spec =
     same-length-3
     same-length-4
     returns-3
-    keep-requires
+    store-after-requires
     replied-requires
     answered-requires-6
     enum-known-v-5
     ask-lss-requires
-    keep-requires-2
+    store-after-requires-2
     lss-sent-requires
     answered-requires-7
     returns-4

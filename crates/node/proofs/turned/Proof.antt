@@ -10,17 +10,17 @@ use borrow.Author.Needs.{needs}
 use Rattle.node.proofs.turned.Statement.{statement}
 use Rattle.node.proofs.turned.Tie as tie
 
-settled-requires : tie.Need-settled-requires
-settled-requires c κs = search needs
+settings-after-requires : tie.Need-settings-after-requires
+settings-after-requires c κs = search needs
 
 core-after-requires : tie.Need-core-after-requires
 core-after-requires c κs = search needs
 
-judge-requires : tie.Need-judge-requires
-judge-requires c κs =
+emcy-after-requires : tie.Need-emcy-after-requires
+emcy-after-requires c κs =
     let c7 = c .before .before .before .before .before .before .before in
     let p = c7 .pre .0 in
-    let settled = c .before .before .before .settled .ensures in
+    let settled = c .before .before .before .settings-after .ensures in
     (rw settled (p .after .digits), rw (c .before .core-after .ensures (p .asks) (c7 .args .s) (p .heard) refl, settled) (p .after .id))
 
 booted-requires : tie.Need-booted-requires
@@ -38,14 +38,14 @@ returns c =
     let c9 = c6 .before .before .before in
     let a = c9 .before .before .before .before .before .before .args in
     let st = read (a .store .now) in
-    let settled = c9 .before .before .settled .ensures in
+    let settled = c9 .before .before .settings-after .ensures in
     let reply = framesOf (a .reply) in
     let boot = framesOf (c6 .booted .result) in
-    let emcy = framesOf (c6 .before .judge .result .emcy) in
+    let emcy = framesOf (c6 .before .emcy-after .result .emcy) in
     λ v heard.
     let core = c9 .core-after .ensures v (a .s) heard refl in
     let judged =
-    c6 .before .judge .ensures (Step.changed (a .c) v (a .s) st) (ap (λ (k : Settings). k .application) (sym settled))
+    c6 .before .emcy-after .ensures (Step.changed (a .c) v (a .s) st) (ap (λ (k : Settings). k .application) (sym settled))
     (sym (core ∙ ap (Step.coreAfter (a .c) v (a .s) st) settled)) in
     let order =
     append-assoc reply boot emcy ∙ ap (λ fs. reply ++ (fs ++ emcy)) (c6 .booted .ensures) ∙ ap (λ fs. reply ++ (Step.booted (a .c) ++ fs)) (judged .emcy) in
@@ -55,9 +55,9 @@ pub turned-spec : {M : Type 1} → statement M
 turned-spec =
     tie.close
     (tie.spec
-    settled-requires
+    settings-after-requires
     core-after-requires
-    judge-requires
+    emcy-after-requires
     booted-requires
     send-requires
     same-length

@@ -35,12 +35,12 @@ moved false true false false = refl
 
 module _ (s : State) where
   ordered : Rules.rules s
-      ≡ first s && (Rules.ruleStart s && (Rules.ruleLss s && (Rules.ruleSync s && (Rules.ruleUpload s && (Rules.ruleReported s && Rules.ruleMarks s)))))
+      ≡ first s && (Rules.ruleStart s && (Rules.ruleLss s && (Rules.ruleSync s && (Rules.ruleUpload s && (Rules.ruleReported s && Rules.ruleHonest s)))))
   unfolding Rules.rules
   ordered =
       grouped (Rules.ruleIds s) (Rules.ruleBits s) (Rules.ruleNmt s) (Rules.ruleRanges s) _
       ∙ ap (λ (t : Bool). first s && t)
-      (moved (Rules.ruleMarks s) (Rules.ruleStart s) (Rules.ruleReported s) _
+      (moved (Rules.ruleHonest s) (Rules.ruleStart s) (Rules.ruleReported s) _
       ∙ sym (grouped (Rules.ruleStart s) (Rules.ruleLss s) (Rules.ruleSync s) (Rules.ruleUpload s) _))
 
   -- one that fails decides, and the signatures decide where none has
@@ -64,9 +64,9 @@ module _ (s : State) where
   by-reading h =
       rw (ordered, h, and-false (Rules.ruleUpload s), and-false (Rules.ruleSync s), and-false (Rules.ruleLss s), and-false (Rules.ruleStart s), and-false (first s))
 
-  by-marks : first s ≡ true → Rules.ruleStart s ≡ true → Rules.ruleLss s ≡ true → Rules.ruleSync s ≡ true → Rules.ruleUpload s ≡ true
-      → Rules.ruleReported s ≡ true → Rules.ruleMarks s ≡ Rules.rules s
-  by-marks a b c d e f = rw (ordered, a, b, c, d, e, f)
+  by-honest : first s ≡ true → Rules.ruleStart s ≡ true → Rules.ruleLss s ≡ true → Rules.ruleSync s ≡ true → Rules.ruleUpload s ≡ true
+      → Rules.ruleReported s ≡ true → Rules.ruleHonest s ≡ Rules.rules s
+  by-honest a b c d e f = rw (ordered, a, b, c, d, e, f)
 
   in-range : first s ≡ true → Rules.ruleRanges s ≡ true
   in-range h = and-r (Rules.ruleNmt s) _ (and-r (Rules.ruleBits s) _ (and-r (Rules.ruleIds s) _ h))
@@ -131,15 +131,15 @@ returns-6 c =
     let b = c .before .before .before .before .before .before .before .before .before .before .before in
     by-reading (b .before .before .before .before .args .s) (not-true _ (rw (c .before .rule-reported .ensures) at (c .if6 .taken)))
 
-rule-marks-requires : tie.Need-rule-marks-requires
-rule-marks-requires c κs = search needs
+rule-honest-requires : tie.Need-rule-honest-requires
+rule-honest-requires c κs = search needs
 
 returns-7 : tie.Need-returns-7
 returns-7 c =
     let e = c .before .before .before .before .before .before .before .before .before .before .before in
     let b = e .before in
-    rw (c .rule-marks .ensures)
-    (by-marks (b .before .before .before .before .args .s)
+    rw (c .rule-honest .ensures)
+    (by-honest (b .before .before .before .before .args .s)
     (not-false _ (rw (b .before .before .before .rule-ids .ensures, b .before .before .rule-bits .ensures, b .before .rule-nmt .ensures, b .rule-ranges .ensures) at (e .if1 .left)))
     (not-false _ (rw (c .before .before .before .before .before .before .before .before .before .before .rule-start .ensures) at (c .before .before .before .before .before .before .before .before .before .if2 .left)))
     (not-false _ (rw (c .before .before .before .before .before .before .before .before .rule-lss .ensures) at (c .before .before .before .before .before .before .before .if3 .left)))
@@ -166,5 +166,5 @@ rules-spec =
     returns-5
     rule-reported-requires
     returns-6
-    rule-marks-requires
+    rule-honest-requires
     returns-7)

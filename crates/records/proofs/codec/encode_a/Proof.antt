@@ -2,7 +2,7 @@
 use Prim.Native.Nat.{_<_}
 use native.Mathlib.Omega.{arith}
 use native.Mathlib.Nat.{mod-eq-of-lt}
-use Rattle.model.specs.Bytes.{le}
+use Rattle.model.specs.Bytes.{lowBytes}
 use Rattle.model.specs.Settings.{rows, bytesOf}
 use Rattle.model.specs.Store.{recordOf}
 use borrow.Author.Needs.{needs}
@@ -61,7 +61,7 @@ cast-t43 : tie.Need-cast-t43
 cast-t43 c = search needs
 
 returns : tie.Need-returns
-unfolding recordOf rows bytesOf le
+unfolding recordOf rows bytesOf lowBytes
 returns c = let a = c .before .before .before .before .before .before .args .k .application in
     let autostart : a .autostart < 256 = omega arith in
     let digits : a .digits < 256 = omega arith in

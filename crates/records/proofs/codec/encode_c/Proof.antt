@@ -2,7 +2,7 @@
 use Prim.Native.Nat.{_<_}
 use native.Mathlib.Omega.{arith}
 use native.Mathlib.Nat.{mod-eq-of-lt}
-use Rattle.model.specs.Bytes.{le}
+use Rattle.model.specs.Bytes.{lowBytes}
 use Rattle.model.specs.Settings.{rows, bytesOf}
 use Rattle.model.specs.Store.{recordOf}
 use borrow.Author.Needs.{needs}
@@ -58,7 +58,7 @@ cast-t47 : tie.Need-cast-t47
 cast-t47 c = search needs
 
 returns : tie.Need-returns
-unfolding recordOf rows bytesOf le
+unfolding recordOf rows bytesOf lowBytes
 returns c = let s = c .before .before .before .before .before .before .before .before .before .before .before .before .before .before .before .args .k .communication in
     let direction : s .srdo .direction < 256 = omega arith in
     let validation : s .srdo .validation < 256 = omega arith in

@@ -1,6 +1,6 @@
--- `sdo::reply::headed` meets its contract: the bytes of the index are those of `le`. Assumes nothing.
+-- `sdo::reply::headed` meets its contract: the bytes of the index are those of `lowBytes`. Assumes nothing.
 use mathlib.Core.Path.{refl}
-use Rattle.model.specs.Bytes.{le}
+use Rattle.model.specs.Bytes.{lowBytes}
 use borrow.Author.Needs.{needs}
 use Rattle.sdo.proofs.reply.headed.Statement.{statement}
 use Rattle.sdo.proofs.reply.headed.Tie as tie
@@ -30,7 +30,7 @@ array-read-t25 : tie.Need-array-read-t25
 array-read-t25 c = search needs
 
 returns : tie.Need-returns
-unfolding le
+unfolding lowBytes
 returns c = refl
 
 pub headed-spec : {M : Type 1} → statement M

@@ -1,5 +1,5 @@
 -- `sdo::reply::uploaded` meets its contract: each arm is its case of `uploaded`; the four bytes that carry a value are its own, then zeros; law `four-bytes`. Assumes nothing.
-use Rattle.model.specs.Bytes.{le}
+use Rattle.model.specs.Bytes.{lowBytes}
 use Rattle.settings.proofs.Alike.{four-bytes}
 use borrow.Author.Needs.{needs}
 use Rattle.sdo.proofs.reply.uploaded.Statement.{statement}
@@ -27,11 +27,11 @@ headed-requires-2 : tie.Need-headed-requires-2
 headed-requires-2 c κs = search needs
 
 returns : tie.Need-returns
-unfolding le
+unfolding lowBytes
 returns c = rw (c .headed .ensures, c .before .enum-told .given .1)
 
 returns-2 : tie.Need-returns-2
-unfolding le
+unfolding lowBytes
 returns-2 c = let v = c .before .before .before .before .before .what .given .0 in
     rw (c .headed2 .ensures, c .before .encode .ensures, c .before .before .expedited .ensures, c .before .before .before .kind-of .ensures, c .before .before .before .before .before .what .given .1) (simp four-bytes)
 

@@ -13,25 +13,25 @@ value-of-requires c κs = search needs
 number-of-requires-2 : tie.Need-number-of-requires-2
 number-of-requires-2 c κs = search needs
 
-unmarks-c-requires : tie.Need-unmarks-c-requires
-unmarks-c-requires c κs = search needs
+revokes-c-requires : tie.Need-revokes-c-requires
+revokes-c-requires c κs = search needs
 
-unmarks-a-requires : tie.Need-unmarks-a-requires
-unmarks-a-requires c κs = search needs
+revokes-a-requires : tie.Need-revokes-a-requires
+revokes-a-requires c κs = search needs
 
 put-requires : tie.Need-put-requires
 put-requires c κs = c .before .before .before .before .before .pre
 
-unmark-requires : tie.Need-unmark-requires
-unmark-requires c κs = search needs
+revoke-requires : tie.Need-revoke-requires
+revoke-requires c κs = search needs
 
 returns : tie.Need-returns
 returns c =
     rw (
-      c .unmark .ensures,
+      c .revoke .ensures,
       c .before .put .ensures,
-      c .before .before .unmarks-a .ensures,
-      c .before .before .before .unmarks-c .ensures,
+      c .before .before .revokes-a .ensures,
+      c .before .before .before .revokes-c .ensures,
       c .before .before .before .before .number-of2 .ensures,
       c .before .before .before .before .before .value-of .ensures,
       c .before .before .before .before .before .before .number-of .ensures,
@@ -46,8 +46,8 @@ write-spec =
     number-of-requires
     value-of-requires
     number-of-requires-2
-    unmarks-c-requires
-    unmarks-a-requires
+    revokes-c-requires
+    revokes-a-requires
     put-requires
-    unmark-requires
+    revoke-requires
     returns)

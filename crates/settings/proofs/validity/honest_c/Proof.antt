@@ -5,17 +5,17 @@ use Rattle.settings.proofs.Alike.{valid-c}
 use Rattle.settings.proofs.validity.honest_c.Statement.{statement}
 use Rattle.settings.proofs.validity.honest_c.Tie as tie
 
-marked-c-requires : tie.Need-marked-c-requires
-marked-c-requires c κs = search needs
+vouched-c-requires : tie.Need-vouched-c-requires
+vouched-c-requires c κs = search needs
 
 signed-c-requires : tie.Need-signed-c-requires
 signed-c-requires c κs = search needs
 
 returns : tie.Need-returns
-returns c = rw (c .signed-c .ensures ∙ valid-c (c .before .before .before .before .args .k), sym (c .before .before .before .marked-c .ensures) ∙ c .before .before .if1 .taken)
+returns c = rw (c .signed-c .ensures ∙ valid-c (c .before .before .before .before .args .k), sym (c .before .before .before .vouched-c .ensures) ∙ c .before .before .if1 .taken)
 
 returns-2 : tie.Need-returns-2
-returns-2 c = rw (sym (c .before .marked-c .ensures) ∙ c .if1 .left)
+returns-2 c = rw (sym (c .before .vouched-c .ensures) ∙ c .if1 .left)
 
 pub honest-c-spec : {M : Type 1} → statement M
-honest-c-spec = tie.close (tie.spec marked-c-requires signed-c-requires returns returns-2)
+honest-c-spec = tie.close (tie.spec vouched-c-requires signed-c-requires returns returns-2)

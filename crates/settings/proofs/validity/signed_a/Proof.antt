@@ -3,7 +3,7 @@ use borrow.Author.Needs.{needs}
 use mathlib.Core.Path.{_≡_}
 use Prim.Native.Nat.{_%_}
 use native.Mathlib.Omega.{arith}
-use Rattle.model.specs.Bytes.{le}
+use Rattle.model.specs.Bytes.{lowBytes}
 use Rattle.model.specs.Settings.{bytesOf}
 use Rattle.model.specs.Validity.{signs, valid}
 use Rattle.settings.proofs.validity.signed_a.Statement.{statement}
@@ -70,7 +70,7 @@ crc-requires : tie.Need-crc-requires
 crc-requires c κs = search needs
 
 returns : tie.Need-returns
-unfolding le bytesOf signs valid
+unfolding lowBytes bytesOf signs valid
 returns c =
     let d = c .before .before .before .before .before .before .before .before .args .digits in
     let e : d % 256 ≡ d = omega arith in

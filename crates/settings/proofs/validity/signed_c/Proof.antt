@@ -3,7 +3,7 @@ use borrow.Author.Needs.{needs}
 use mathlib.Core.Path.{_≡_}
 use Prim.Native.Nat.{_%_, _/_}
 use native.Mathlib.Omega.{arith}
-use Rattle.model.specs.Bytes.{le}
+use Rattle.model.specs.Bytes.{lowBytes}
 use Rattle.model.specs.Settings.{bytesOf}
 use Rattle.model.specs.Validity.{signs, valid}
 use Rattle.settings.proofs.validity.signed_c.Statement.{statement}
@@ -61,7 +61,7 @@ add-result : tie.Need-add-result
 add-result c = search needs
 
 returns : tie.Need-returns
-unfolding le bytesOf signs valid
+unfolding lowBytes bytesOf signs valid
 returns c =
     let s = c .before .before .before .before .before .before .args .srdo in
     let e1 : s .direction % 256 ≡ s .direction = omega arith in

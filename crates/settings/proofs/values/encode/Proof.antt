@@ -6,7 +6,7 @@ use native.Mathlib.Omega.{arith}
 use mir.Syntax.{w32}
 use mir.Val.{ofZ, toZ}
 use Rattle.model.specs.declared.Value.the-variants.{U32}
-use Rattle.model.specs.Bytes.{le}
+use Rattle.model.specs.Bytes.{lowBytes}
 use Rattle.settings.specs.Four.{fourBytes}
 use Rattle.settings.proofs.values.encode.Statement.{statement}
 use Rattle.settings.proofs.values.encode.Tie as tie
@@ -48,19 +48,19 @@ word-requires-3 : tie.Need-word-requires-3
 word-requires-3 c κs = search needs
 
 returns : tie.Need-returns
-unfolding fourBytes le
+unfolding fourBytes lowBytes
 returns c = let n = c .before .v .given .0 .0 in let e : n % 256 ≡ n = omega arith in rw (c .before .v .given .1, e)
 
 returns-2 : tie.Need-returns-2
-unfolding fourBytes le
+unfolding fourBytes lowBytes
 returns-2 c = let n = c .before .v2 .given .0 .0 in let e : n / 256 % 256 ≡ n / 256 = omega arith in rw (c .before .v2 .given .1, e)
 
 returns-3 : tie.Need-returns-3
-unfolding fourBytes le
+unfolding fourBytes lowBytes
 returns-3 c = rw (c .word .ensures, c .before .before .v3 .given .1)
 
 returns-4 : tie.Need-returns-4
-unfolding fourBytes le
+unfolding fourBytes lowBytes
 returns-4 c =
     let z = c .before .before .before .v4 .given .0 .0 in
     let e : toZ w32 (ofZ w32 z) ≡ z = search needs in
@@ -68,7 +68,7 @@ returns-4 c =
     ∙ ap (ofZ w32) e))
 
 returns-5 : tie.Need-returns-5
-unfolding fourBytes le
+unfolding fourBytes lowBytes
 returns-5 c = rw (c .word3 .ensures, c .before .bits-of .ensures, c .before .before .before .v5 .given .1)
 
 pub encode-spec : {M : Type 1} → statement M

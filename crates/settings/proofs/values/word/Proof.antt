@@ -1,7 +1,7 @@
 -- `settings::values::word` meets its contract: the same four bytes. Assumes nothing.
 use borrow.Author.Needs.{needs}
 use mathlib.Core.Path.{refl}
-use Rattle.model.specs.Bytes.{le}
+use Rattle.model.specs.Bytes.{lowBytes}
 use Rattle.settings.proofs.values.word.Statement.{statement}
 use Rattle.settings.proofs.values.word.Tie as tie
 
@@ -18,7 +18,7 @@ cast-t12 : tie.Need-cast-t12
 cast-t12 c = search needs
 
 returns : tie.Need-returns
-unfolding le
+unfolding lowBytes
 returns c = refl
 
 pub word-spec : {M : Type 1} → statement M

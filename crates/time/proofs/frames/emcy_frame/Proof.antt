@@ -1,5 +1,5 @@
 -- `frames::emcy_frame` meets its contract: what the calls ensure, with the code in two bytes. Assumes nothing.
-use Rattle.model.specs.Bytes.{le}
+use Rattle.model.specs.Bytes.{lowBytes}
 use borrow.Author.Needs.{needs}
 use Rattle.time.proofs.frames.emcy_frame.Statement.{statement}
 use Rattle.time.proofs.frames.emcy_frame.Tie as tie
@@ -20,7 +20,7 @@ error-register-requires : tie.Need-error-register-requires
 error-register-requires c κs = search needs
 
 returns : tie.Need-returns
-unfolding le
+unfolding lowBytes
 returns c = rw (c .error-register .ensures, c .before .emcy-code .ensures)
 
 pub emcy-frame-spec : {M : Type 1} → statement M

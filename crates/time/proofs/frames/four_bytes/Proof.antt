@@ -1,6 +1,6 @@
--- `frames::four_bytes` meets its contract: its divisions are those of `le`. Assumes nothing.
+-- `frames::four_bytes` meets its contract: its divisions are those of `lowBytes`. Assumes nothing.
 use mathlib.Core.Path.{refl}
-use Rattle.model.specs.Bytes.{le}
+use Rattle.model.specs.Bytes.{lowBytes}
 use borrow.Author.Needs.{needs}
 use Rattle.time.proofs.frames.four_bytes.Statement.{statement}
 use Rattle.time.proofs.frames.four_bytes.Tie as tie
@@ -18,7 +18,7 @@ cast-t13 : tie.Need-cast-t13
 cast-t13 c = search needs
 
 returns : tie.Need-returns
-unfolding le
+unfolding lowBytes
 returns c = refl
 
 pub four-bytes-spec : {M : Type 1} → statement M

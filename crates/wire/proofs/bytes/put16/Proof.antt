@@ -2,7 +2,7 @@
 use native.Mathlib.Omega.{arith}
 use lib.ListN.{length-set}
 use denote.Ref.{now}
-use Rattle.model.specs.Bytes.{le}
+use Rattle.model.specs.Bytes.{lowBytes}
 use Rattle.wire.proofs.Numbers.{put-law}
 use borrow.Author.Needs.{needs}
 use Rattle.wire.proofs.bytes.put16.Statement.{statement}
@@ -27,8 +27,8 @@ same-length : tie.Need-same-length
 same-length c = search needs
 
 returns : tie.Need-returns
-unfolding le
-returns c = put-law (now (c .args .s)) (c .args .at) (le 2 (c .args .x)) (c .pre)
+unfolding lowBytes
+returns c = put-law (now (c .args .s)) (c .args .at) (lowBytes 2 (c .args .x)) (c .pre)
 
 pub put16-spec : {M : Type 1} → statement M
 put16-spec =

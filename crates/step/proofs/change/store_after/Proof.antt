@@ -1,4 +1,4 @@
--- `change::keep` meets its contract: the changes that touch the store, each by its function, and the others. Assumes nothing.
+-- `change::store_after` meets its contract: the changes that touch the store, each by its function, and the others. Assumes nothing.
 use mathlib.Core.Path.{_≡_, refl}
 use mathlib.Core.List.{List, [], _∷_}
 use Prim.Native.Nat.{ℕ}
@@ -10,8 +10,8 @@ use Rattle.model.specs.declared.Change.the-variants.{Keep, Write, Save, TakeOut
 use Rattle.model.specs.declared.State.{State}
 use Rattle.model.specs.Changes.{stored}
 use borrow.Author.Needs.{needs}
-use Rattle.step.proofs.change.keep.Statement.{statement}
-use Rattle.step.proofs.change.keep.Tie as tie
+use Rattle.step.proofs.change.store_after.Statement.{statement}
+use Rattle.step.proofs.change.store_after.Tie as tie
 
 -- the changes that no arm names, by their numbers
 abbrev rest : List ℕ
@@ -68,8 +68,8 @@ returns-3 c = rw (c .before .before .before .before .before .enum-told .given .1
 returns-4 : tie.Need-returns-4
 returns-4 c = others (c .before .before .args .c) (c .before .before .args .s) _ (c .match .keys4)
 
-pub keep-spec : {M : Type 1} → statement M
-keep-spec =
+pub store-after-spec : {M : Type 1} → statement M
+store-after-spec =
     tie.close
     (tie.spec
     enum-known-c

@@ -1,9 +1,9 @@
--- `change::settled` meets its contract: the changes that touch parameters, each by its function, and the others. Assumes nothing.
+-- `change::settings_after` meets its contract: the changes that touch parameters, each by its function, and the others. Assumes nothing.
 use Rattle.model.specs.Changes.{effect, applied}
 use Rattle.step.proofs.Altered.{unaltered, kept}
 use borrow.Author.Needs.{needs}
-use Rattle.step.proofs.change.settled.Statement.{statement}
-use Rattle.step.proofs.change.settled.Tie as tie
+use Rattle.step.proofs.change.settings_after.Statement.{statement}
+use Rattle.step.proofs.change.settings_after.Tie as tie
 
 enum-known-c : tie.Need-enum-known-c
 enum-known-c c = search needs
@@ -37,8 +37,8 @@ returns-3 c = rw (c .load .ensures, c .before .before .c3 .given .1)
 returns-4 : tie.Need-returns-4
 returns-4 c = kept (c .before .before .args .c) (c .before .before .args .k) _ (unaltered (c .before .before .args .c) (c .match .keys4))
 
-pub settled-spec : {M : Type 1} → statement M
-settled-spec =
+pub settings-after-spec : {M : Type 1} → statement M
+settings-after-spec =
     tie.close
     (tie.spec
     enum-known-c

@@ -1,4 +1,4 @@
--- What the two calls give, and what their parts may count on. Assumes nothing.
+-- What the parts of the two calls give, and what they may count on. Assumes nothing.
 use Prim.Native.Nat.{ℕ}
 use mathlib.Core.Path.{_≡_}
 use mathlib.Core.Bool.{true}
@@ -13,22 +13,12 @@ use Rattle.model.specs.declared.Answer.{Answer}
 use Rattle.model.specs.Frames.{framesOf}
 use Rattle.model.specs.Store.{read}
 use Rattle.model.specs.Parts.{withCore}
-use Rattle.model.specs.Step.{Outcome, Answered, done, changeOf, reply, heard, booted, changed, reports, served}
+use Rattle.model.specs.Step.{Outcome, done, changeOf, reply, heard, booted, changed, reports, served}
 use Rattle.image.specs.declared.Sizes.{Sizes}
 use Rattle.rules.specs.Fit.{Fit}
 use Rattle.output.specs.declared.Sent.{Sent}
 use Rattle.output.specs.Sent.{Done, emcyOf, reportedNow}
 use Rattle.step.specs.Asked.{SizesFor, Suits}
-
--- ---- The calls
-
--- the answer of a call, and what output and store hold after it, are those of the definition
-pub record Gives (o : Answered) (r : Answer) (ys zs : List ℕ) : Type 0 where
-  pub answer : r ≡ o .answer
-  pub output : ys ≡ o .output
-  pub store : zs ≡ o .store
-
--- ---- Their parts
 
 -- the answer of a call that has left the parameters
 abbrev pub left : Sent → State → Answer
