@@ -1,13 +1,14 @@
 -- One image for each choice of records and values: a record that is accepted is the one that its own values make. So two good images that hold
 -- the same N, the same ID with C and the same values are the same bytes. Assumes nothing.
 use mathlib.Core.Path.{_≡_, refl, sym, ap, _∙_, subst}
-use mathlib.Core.Bool.{Bool, true, false, not, cond, false≢true}
+use mathlib.Core.Bool.{Bool, true, false, not, _&&_, false≢true}
 use mathlib.Core.List.{List, [], _∷_, _++_}
 use mathlib.Core.Logic.{⊎-elim}
-use Prim.Native.Nat.{ℕ, zero, suc, _+_, _*_, _%_, _/_, _^_, _-_, _≤_, _<_, min}
+use Prim.Native.Nat.{ℕ, _+_, _*_, _%_, _/_, _^_, _≤_, _<_}
 use native.Mathlib.Omega.{arith}
 use native.Mathlib.Nat.{min-eq-left}
-use lib.Dec.{T}
+use lib.Dec.{T, eqb}
+use borrow.Author.Tests.{eqb-true}
 use lib.ListN.{length, take, drop, length-take, length-drop, take-append-drop, drop-of-length-le}
 use lib.Seq.{drop-drop}
 use lib.Ieee.{Float, nan, inf, fin, binary32, ofBits, isNan}
@@ -15,20 +16,20 @@ use Rattle.model.specs.declared.Value.{Value}
 use Rattle.model.specs.declared.Kind.{Kind}
 use Rattle.model.specs.declared.Kind.the-variants as K
 use Rattle.model.specs.declared.Parameter.{Parameter}
-use Rattle.model.specs.declared.Parameter.the-variants.{P1017, P1301s1, P1301s2, P1301s3, P1301s5, P1301s6, P1800s2, P1800s5, P13FE, P13FF, P2330, P6121, P6123, P6124, P6132, P51FE, P51FF}
 use Rattle.model.specs.declared.Group.{Group}
 use Rattle.model.specs.declared.Group.the-variants.{C, A}
 use Rattle.model.specs.Bytes.{Bytes, lowBytes, asNumber, part, numberAt}
 use Rattle.model.specs.Values.{widthOf, kindOf, numberOf, typed, encoded}
 use Rattle.model.specs.Reading.{judgeReal}
-use Rattle.model.specs.Settings.{row, rows, bytesOf, judge, isInside, inRanges}
-use Rattle.model.specs.Validity.{honest, sound}
-use Rattle.model.specs.Store.{recordOf, sizeOfRecord, placeOf, field, ok, build, nIn, cIn, aIn, isGood, read, savedN, saved}
+use Rattle.model.specs.Settings.{Range, all, between, oneOf, real, row, rows, bytesOf, judge, isInside, inRanges}
+use Rattle.model.specs.Validity.{validityOf, honest, sound}
+use Rattle.model.specs.Store.{recordOf, sizeOfRecord, rowsAt, placeOf, field, ok, build, nIn, cIn, aIn, isGood, read, savedN, saved}
 use Rattle.model.specs.History.{Held, absent, kept, heldIn, heldFor, headOf, heldIdIn}
 use Rattle.laws.proofs.Tests.{and-l, and-r}
 use Rattle.laws.proofs.Bytes.{bytes-part, part-lt}
 use Rattle.laws.proofs.Values.{NoNan, typed-kind, number-typed}
-use Rattle.laws.proofs.Parameters.{range-at, in-rows}
+use Rattle.laws.proofs.Parameters.{by-table}
+use Rattle.laws.proofs.Saving.{widths, bytes-by}
 use Rattle.laws.proofs.Image.{only-one, sized-of, read-ok}
 use Rattle.laws.proofs.Loading.{sound-there, sound-fields, read-bytes}
 
@@ -71,39 +72,70 @@ field-next p r rest b h x e =
     encoded-back (row p .kind) l (length-part (placeOf p) w r h) (bytes-part (placeOf p) w r b) (part-lt (placeOf p) w r b) x in
     rw f (part-next (placeOf p) w r rest e)
 
--- ---- the records
+-- ---- rows that stand one after the other
 
--- a Real32 in range is no NaN
+-- each stands where the one before it ends
+standing : ℕ → List Parameter → Bool
+standing at [] = true
+standing at (p ∷ ps) = eqb (placeOf p) at && standing (at + widthOf (row p .kind)) ps
+
+rows-stand : (g : Group) → standing (rowsAt g) (rows g) ≡ true
+unfolding standing rows placeOf
+rows-stand C = refl
+rows-stand A = refl
+
+-- a Real32 has the range of finite ones
+ranged : Kind → Range → Bool
+ranged K.U8 g = true
+ranged K.U16 g = true
+ranged K.U32 g = true
+ranged K.Integer32 g = true
+ranged K.Real32 all = false
+ranged K.Real32 (between lo hi) = false
+ranged K.Real32 (oneOf test) = false
+ranged K.Real32 real = true
+
+all-ranged : (p : Parameter) → ranged (row p .kind) (row p .range) ≡ true
+unfolding ranged
+all-ranged p = by-table (λ (q : Parameter). ranged (row q .kind) (row q .range)) refl p
+
+-- so a value in range is no NaN
 real-number : (x : Float) → isInside (judgeReal x) ≡ true → T (not (isNan x))
 unfolding judgeReal isNan
 real-number nan h = false≢true h
 real-number (inf s) h = absurd (false≢true h)
 real-number (fin s m e) h = tt
 
-rows-c : (r : List ℕ) → Bytes r → length r ≡ 21 → bytesOf (rows C) (field r) ≡ drop 1 r
-unfolding bytesOf rows placeOf
-rows-c r b e =
-    field-next P1017 r _ b (omega arith) tt
-    (field-next P1301s1 r _ b (omega arith) tt
-    (field-next P1301s2 r _ b (omega arith) tt
-    (field-next P1301s3 r _ b (omega arith) tt
-    (field-next P1301s5 r _ b (omega arith) tt
-    (field-next P1301s6 r _ b (omega arith) tt
-    (field-next P1800s2 r _ b (omega arith) tt
-    (field-next P1800s5 r _ b (omega arith) tt
-    (field-next P13FE r _ b (omega arith) tt
-    (field-next P13FF r [] b (omega arith) tt (sym (drop-of-length-le r {i = 21} (omega arith))))))))))))
+no-nan : (k : Kind) (g : Range) (n : ℕ) → ranged k g ≡ true → isInside (judge g (typed k n)) ≡ true → NoNan k n
+unfolding ranged judge
+no-nan K.U8 g n r h = tt
+no-nan K.U16 g n r h = tt
+no-nan K.U32 g n r h = tt
+no-nan K.Integer32 g n r h = tt
+no-nan K.Real32 all n r h = absurd (false≢true r)
+no-nan K.Real32 (between lo hi) n r h = absurd (false≢true r)
+no-nan K.Real32 (oneOf test) n r h = absurd (false≢true r)
+no-nan K.Real32 real n r h = real-number (ofBits binary32 n) h
 
-rows-a : (r : List ℕ) → Bytes r → length r ≡ 17 → inRanges (rows A) (field r) ≡ true → bytesOf (rows A) (field r) ≡ r
-unfolding bytesOf rows placeOf field judge
-rows-a r b e h =
-    field-next P2330 r _ b (omega arith) tt
-    (field-next P6121 r _ b (omega arith) (real-number _ (range-at (rows A) (field r) P6121 (in-rows P6121) h))
-    (field-next P6123 r _ b (omega arith) (real-number _ (range-at (rows A) (field r) P6123 (in-rows P6123) h))
-    (field-next P6124 r _ b (omega arith) (real-number _ (range-at (rows A) (field r) P6124 (in-rows P6124) h))
-    (field-next P6132 r _ b (omega arith) tt
-    (field-next P51FE r _ b (omega arith) tt
-    (field-next P51FF r [] b (omega arith) tt (sym (drop-of-length-le r {i = 17} (omega arith)))))))))
+-- the bytes of the values that stand in a record, from a place to its end, are what stands there
+rows-back : (r : List ℕ) (at : ℕ) (ps : List Parameter) → Bytes r → length r ≡ at + widths ps → standing at ps ≡ true
+    → inRanges ps (field r) ≡ true → bytesOf ps (field r) ≡ drop at r
+unfolding bytesOf widths standing inRanges
+rows-back r at [] b e s h = sym (drop-of-length-le r {i = at} (omega arith))
+rows-back r at (p ∷ ps) b e s h =
+    let w = widthOf (row p .kind) in
+    let a : placeOf p ≡ at = eqb-true (placeOf p) at (and-l (eqb (placeOf p) at) (standing (at + w) ps) s) in
+    let rest : bytesOf ps (field r) ≡ drop (at + w) r =
+    rows-back r (at + w) ps b (omega arith) (and-r (eqb (placeOf p) at) (standing (at + w) ps) s)
+    (and-r (isInside (judge (row p .range) (field r p))) (inRanges ps (field r)) h) in
+    subst (λ (n : ℕ). encoded (field r p) ++ bytesOf ps (field r) ≡ drop n r) a
+    (field-next p r (bytesOf ps (field r)) b (omega arith)
+    (unfold field in
+    no-nan (row p .kind) (row p .range) (numberAt (placeOf p) w r) (all-ranged p)
+    (and-l (isInside (judge (row p .range) (field r p))) (inRanges ps (field r)) h))
+    (rest ∙ ap (λ (n : ℕ). drop (n + w) r) (sym a)))
+
+-- ---- the records
 
 -- it has its size
 size-there : (g : Group) (x : ℕ) (xs : List ℕ) → ok g (x ∷ xs) ≡ true → length (x ∷ xs) ≡ sizeOfRecord g
@@ -114,16 +146,18 @@ made-of : (image : List ℕ) → isGood image ≡ true → image ≡ build (save
 unfolding read
 made-of image g = only-one image (nIn image) (cIn image) (aIn image) (rw g refl) .0 ∙ rw g refl
 
--- a record that is there, and accepted, is the one that its ID and its values make
-record-c : (x : ℕ) (xs : List ℕ) → Bytes (x ∷ xs) → ok C (x ∷ xs) ≡ true → recordOf C x (field (x ∷ xs)) ≡ x ∷ xs
-unfolding recordOf
-record-c x xs b h = ap (λ (l : List ℕ). x ∷ l) (rows-c (x ∷ xs) b (size-there C x xs h))
+-- a record that is there, and accepted, is the one that its first byte and its values make
+record-back : (g : Group) (x : ℕ) (xs : List ℕ) → Bytes (x ∷ xs) → ok g (x ∷ xs) ≡ true → recordOf g x (field (x ∷ xs)) ≡ x ∷ xs
+unfolding sound recordOf rows widths
+record-back g x xs b h = go g (size-there g x xs h) (rows-stand g) (and-l (inRanges (rows g) f) (honest g f) (sound-fields g (x ∷ xs) (sound-there g x xs h)))
+  where
+    f : Parameter → Value
+    f = field (x ∷ xs)
 
-record-a : (x : ℕ) (xs : List ℕ) → Bytes (x ∷ xs) → ok A (x ∷ xs) ≡ true → recordOf A 0 (field (x ∷ xs)) ≡ x ∷ xs
-unfolding recordOf sound
-record-a x xs b h =
-    let s = sound-fields A (x ∷ xs) (sound-there A x xs h) in
-    rows-a (x ∷ xs) b (size-there A x xs h) (and-l (inRanges (rows A) (field (x ∷ xs))) (honest A (field (x ∷ xs))) s)
+    go : (g : Group) → length (x ∷ xs) ≡ sizeOfRecord g → standing (rowsAt g) (rows g) ≡ true → inRanges (rows g) (field (x ∷ xs)) ≡ true
+        → recordOf g x (field (x ∷ xs)) ≡ x ∷ xs
+    go C e s r = ap (λ (l : List ℕ). x ∷ l) (rows-back (x ∷ xs) 1 (rows C) b e s r)
+    go A e s r = rows-back (x ∷ xs) 0 (rows A) b e s r
 
 -- ---- two that hold the same
 
@@ -142,53 +176,43 @@ same-fields : (x y : ℕ) (xs ys : List ℕ) (q : Parameter) → At q (x ∷ xs)
 unfolding unkept
 same-fields x y xs ys q e = ap (unkept (field (x ∷ xs) q)) e
 
-abbrev Alike : (Parameter → Value) → (Parameter → Value) → List Parameter → Type 0
-Alike f h [] = Unit {0}
-Alike f h (p ∷ ps) = (f p ≡ h p) × Alike f h ps
+-- the ID that a record begins with, which C alone has
+abbrev idIn : Group → List ℕ → Held ℕ
+idIn C r = heldIn headOf r
+idIn A r = absent
 
-bytes-alike : (ps : List Parameter) (f h : Parameter → Value) → Alike f h ps → bytesOf ps f ≡ bytesOf ps h
-unfolding bytesOf
-bytes-alike [] f h a = refl
-bytes-alike (p ∷ ps) f h a = rw (a .0) (ap (λ (l : List ℕ). encoded (h p) ++ l) (bytes-alike ps f h (a .1)))
+-- each group has a parameter
+one-of : (g : Group) → row (validityOf g) .group ≡ g
+one-of C = refl
+one-of A = refl
 
-same-c : (r t : List ℕ) → Bytes r → Bytes t → ok C r ≡ true → ok C t ≡ true → heldIn headOf r ≡ heldIn headOf t
-    → ((q : Parameter) → row q .group ≡ C → At q r ≡ At q t) → r ≡ t
-unfolding unkept there recordOf rows
-same-c [] [] b c g h i e = refl
-same-c [] (y ∷ ys) b c g h i e = absurd (false≢true (ap there i))
-same-c (x ∷ xs) [] b c g h i e = absurd (false≢true (ap there (sym i)))
-same-c (x ∷ xs) (y ∷ ys) b c g h i e =
-    let f : (q : Parameter) → row q .group ≡ C → field (x ∷ xs) q ≡ field (y ∷ ys) q = λ q j. same-fields x y xs ys q (e q j) in
-    let k : x ≡ y = ap (unkept x) i in
-    let m : bytesOf (rows C) (field (x ∷ xs)) ≡ bytesOf (rows C) (field (y ∷ ys)) =
-    bytes-alike (rows C) (field (x ∷ xs)) (field (y ∷ ys))
-    (f P1017 refl, (f P1301s1 refl, (f P1301s2 refl, (f P1301s3 refl, (f P1301s5 refl, (f P1301s6 refl, (f P1800s2 refl, (f P1800s5 refl, (f P13FE refl, (f P13FF refl, tt)))))))))) in
-    sym (record-c x xs b g) ∙ ap (λ (l : List ℕ). x ∷ l) m ∙ ap (λ (z : ℕ). z ∷ bytesOf (rows C) (field (y ∷ ys))) k ∙ record-c y ys c h
+made-same : (g : Group) (x y : ℕ) (xs ys : List ℕ) (f h : Parameter → Value) → idIn g (x ∷ xs) ≡ idIn g (y ∷ ys)
+    → bytesOf (rows g) f ≡ bytesOf (rows g) h → recordOf g x f ≡ recordOf g y h
+unfolding recordOf unkept
+made-same C x y xs ys f h i e = let k : x ≡ y = ap (unkept x) i in rw (k, e) refl
+made-same A x y xs ys f h i e = e
 
-same-a : (r t : List ℕ) → Bytes r → Bytes t → ok A r ≡ true → ok A t ≡ true
-    → ((q : Parameter) → row q .group ≡ A → At q r ≡ At q t) → r ≡ t
-unfolding unkept there recordOf rows
-same-a [] [] b c g h e = refl
-same-a [] (y ∷ ys) b c g h e = absurd (false≢true (ap there (e P2330 refl)))
-same-a (x ∷ xs) [] b c g h e = absurd (false≢true (ap there (sym (e P2330 refl))))
-same-a (x ∷ xs) (y ∷ ys) b c g h e =
-    let f : (q : Parameter) → row q .group ≡ A → field (x ∷ xs) q ≡ field (y ∷ ys) q = λ q j. same-fields x y xs ys q (e q j) in
-    sym (record-a x xs b g)
-    ∙ bytes-alike (rows A) (field (x ∷ xs)) (field (y ∷ ys))
-    (f P2330 refl, (f P6121 refl, (f P6123 refl, (f P6124 refl, (f P6132 refl, (f P51FE refl, (f P51FF refl, tt)))))))
-    ∙ record-a y ys c h
+record-same : (g : Group) (r t : List ℕ) → Bytes r → Bytes t → ok g r ≡ true → ok g t ≡ true → idIn g r ≡ idIn g t
+    → ((q : Parameter) → row q .group ≡ g → At q r ≡ At q t) → r ≡ t
+unfolding there
+record-same g [] [] b c k l i e = refl
+record-same g [] (y ∷ ys) b c k l i e = absurd (false≢true (ap there (e (validityOf g) (one-of g))))
+record-same g (x ∷ xs) [] b c k l i e = absurd (false≢true (ap there (sym (e (validityOf g) (one-of g)))))
+record-same g (x ∷ xs) (y ∷ ys) b c k l i e =
+    sym (record-back g x xs b k)
+    ∙ made-same g x y xs ys (field (x ∷ xs)) (field (y ∷ ys)) i (bytes-by g _ _ (λ q j. same-fields x y xs ys q (e q j)))
+    ∙ record-back g y ys c l
 
 -- THE THEOREM: two good images that hold the same N, the same ID with C and the same values are the same bytes
 pub one-for-values : (x y : List ℕ) → Bytes x → Bytes y → isGood x ≡ true → isGood y ≡ true → savedN (read x) ≡ savedN (read y)
     → heldIdIn (read x) ≡ heldIdIn (read y) → ((q : Parameter) → heldFor (read x) q ≡ heldFor (read y) q) → x ≡ y
 unfolding heldFor heldIdIn
-one-for-values x y b c g h n i e =
-    let p = made-of x g in
-    let q = made-of y h in
-    let k : saved C (read x) ≡ saved C (read y) =
-    same-c (saved C (read x)) (saved C (read y)) (read-bytes C x b) (read-bytes C y c) (read-ok C x) (read-ok C y) i
-    (λ z j. subst (λ (w : Group). At z (saved w (read x)) ≡ At z (saved w (read y))) j (e z)) in
-    let l : saved A (read x) ≡ saved A (read y) =
-    same-a (saved A (read x)) (saved A (read y)) (read-bytes A x b) (read-bytes A y c) (read-ok A x) (read-ok A y)
-    (λ z j. subst (λ (w : Group). At z (saved w (read x)) ≡ At z (saved w (read y))) j (e z)) in
-    p ∙ rw (n, k, l) refl ∙ sym q
+one-for-values x y b c good-x good-y n i e =
+    let k = same-saved C i in
+    let l = same-saved A refl in
+    made-of x good-x ∙ rw (n, k, l) refl ∙ sym (made-of y good-y)
+  where
+    same-saved : (g : Group) → idIn g (saved g (read x)) ≡ idIn g (saved g (read y)) → saved g (read x) ≡ saved g (read y)
+    same-saved g i =
+        record-same g (saved g (read x)) (saved g (read y)) (read-bytes g x b) (read-bytes g y c) (read-ok g x) (read-ok g y) i
+        (λ q j. subst (λ (w : Group). At q (saved w (read x)) ≡ At q (saved w (read y))) j (unfold heldFor in e q))

@@ -73,7 +73,8 @@ settings-record k id h p = field-record p id (inForce k) (in-force-fits k h)
 
 -- ---- a record of sound values is accepted
 
-widths : List Parameter → ℕ
+-- how many bytes some rows have
+unfoldable pub widths : List Parameter → ℕ
 widths [] = 0
 widths (p ∷ ps) = widthOf (row p .kind) + widths ps
 
@@ -112,9 +113,9 @@ ranges-in g f h = sym (ranges-own g f) ∙ ranges-from (rows g) (own g f) inside
         cond-case (λ (v : Value). isInside (judge (row q .range) v) ≡ true) (sameGroup (row q .group) g) (λ e. h q (group-eq (row q .group) g e))
         (λ _. default-fine q 1 (lit≤ tt) (lit≤ tt) .inside)
 
-pub sound-by : (g : Group) (f h : Parameter → Value) → ((q : Parameter) → row q .group ≡ g → f q ≡ h q) → sound g f ≡ sound g h
+own-same : (g : Group) (f h : Parameter → Value) → ((q : Parameter) → row q .group ≡ g → f q ≡ h q) → own g f ≡ own g h
 unfolding own
-sound-by g f h e = sym (sound-own g f) ∙ ap (sound g) (fun-ext same-own) ∙ sound-own g h
+own-same g f h e = fun-ext same-own
   where
     same-own : (q : Parameter) → own g f q ≡ own g h q
     same-own q = go (sameGroup (row q .group) g) refl
@@ -122,6 +123,19 @@ sound-by g f h e = sym (sound-own g f) ∙ ap (sound g) (fun-ext same-own) ∙ s
         go : (b : Bool) → sameGroup (row q .group) g ≡ b → cond b (f q) (defaultFor 1 q) ≡ cond b (h q) (defaultFor 1 q)
         go true d = e q (group-eq (row q .group) g d)
         go false d = refl
+
+pub sound-by : (g : Group) (f h : Parameter → Value) → ((q : Parameter) → row q .group ≡ g → f q ≡ h q) → sound g f ≡ sound g h
+sound-by g f h e = sym (sound-own g f) ∙ ap (sound g) (own-same g f h e) ∙ sound-own g h
+
+-- and so do the bytes of its rows
+bytes-own : (g : Group) (f : Parameter → Value) → bytesOf (rows g) (own g f) ≡ bytesOf (rows g) f
+unfolding own rows bytesOf
+bytes-own C f = refl
+bytes-own A f = refl
+
+pub bytes-by : (g : Group) (f h : Parameter → Value) → ((q : Parameter) → row q .group ≡ g → f q ≡ h q)
+    → bytesOf (rows g) f ≡ bytesOf (rows g) h
+bytes-by g f h e = sym (bytes-own g f) ∙ ap (bytesOf (rows g)) (own-same g f h e) ∙ bytes-own g h
 
 record-sound : (g : Group) (id : ℕ) (f : Parameter → Value) → AllFit f → sound g (field (recordOf g id f)) ≡ sound g f
 record-sound g id f h =
