@@ -2,5 +2,3 @@
 pub mod Outcomes
 -- when no EMCY can be due
 pub mod Quiet
--- no second answer meets the promise of a call
-pub mod OneAnswer

@@ -42,8 +42,12 @@ use Rattle.step.proofs.Suit.{suits}
 use Rattle.output.specs.declared.Sent.{Sent}
 use Rattle.output.specs.Sent.{Done, Leaves, emcyOf, reportedNow}
 use Rattle.output.proofs.Ticks.{laid-as}
-use Rattle.node.proofs.Quiet.{movesOf, calm}
-use Rattle.node.specs.Parts.{left, asked, keptIn, Turning}
+use Rattle.node.proofs.Quiet.{keptIn, movesOf, calm}
+use Rattle.node.specs.Parts.{left, Turning}
+
+-- what a service comes to
+abbrev pub asked : Service → State → List ℕ → Outcome
+asked v s st = served (changeOf v s (read st)) v s st
 
 -- the load of a power-on
 abbrev pub firstLoad : List ℕ → Change

@@ -12,9 +12,12 @@ use Rattle.model.specs.Rules.{rules}
 use Rattle.model.specs.Step.{reports, heard}
 use Rattle.laws.proofs.Tests.{cond-case}
 use Rattle.laws.proofs.Count.{quiet-state}
-use Rattle.node.specs.Parts.{keptIn}
 
--- FV and the NMT state are what EMCY is judged by
+-- the state after a service that leaves the parameters, but for EMCY
+abbrev pub keptIn : Service → State → State
+keptIn v s = withCore s (heard v s)
+
+-- FV and the NMT state are what EMCY goes by
 abbrev pub movesOf : Service → Bool
 movesOf Nothing = false
 movesOf Tick = false

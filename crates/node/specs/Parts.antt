@@ -13,7 +13,7 @@ use Rattle.model.specs.declared.Answer.{Answer}
 use Rattle.model.specs.Frames.{framesOf}
 use Rattle.model.specs.Store.{read}
 use Rattle.model.specs.Parts.{withCore}
-use Rattle.model.specs.Step.{Outcome, done, changeOf, reply, heard, booted, changed, reports, served}
+use Rattle.model.specs.Step.{done, reply, heard, booted, changed, reports}
 use Rattle.image.specs.declared.Sizes.{Sizes}
 use Rattle.rules.specs.Fit.{Fit}
 use Rattle.output.specs.declared.Sent.{Sent}
@@ -23,14 +23,6 @@ use Rattle.step.specs.Asked.{SizesFor, Suits}
 -- the answer of a call that has left the parameters
 abbrev pub left : Sent → State → Answer
 left r s = record { number = done; count = r .count; state = withCore s (r .core) }
-
--- what a service comes to
-abbrev pub asked : Service → State → List ℕ → Outcome
-asked v s st = served (changeOf v s (read st)) v s st
-
--- the state after a service that leaves the parameters, but for EMCY
-abbrev pub keptIn : Service → State → State
-keptIn v s = withCore s (heard v s)
 
 -- this is the reply of a service that is no tick
 pub record IsReply (v : Service) (r : Reply) (s : State) : Type 0 where
