@@ -93,7 +93,7 @@ static floats floats_of(const pair *p)
     return f;
 }
 
-/* Signed, nothing but the floats' range is wrong where the scene is signed too. */
+/* With a signature that is right for these bits, or as the scene has it. */
 static void set_floats(pair *p, const floats *f, bool sign)
 {
     seumhwari_state s = p->state;
@@ -118,7 +118,8 @@ static void expect(const pair *p, const char *scene, const floats *f, const char
         fail("nans", "%s with %08X %08X %08X: number %u, %u frames", scene, in[0], in[1], in[2], p->number, p->count);
 }
 
-/* Every event in a scene, with each choice or, where not all are asked for, each odd value by itself. */
+/* Every event in a scene, with each choice or, where not all are asked for, each odd value by itself. Stopped takes all: there no other rule
+ * is broken, while elsewhere the reading of such floats counts as capped and may be unreported too. */
 static unsigned run_states(pair *p, int scene, bool all, bool sign)
 {
     unsigned calls = 0;
@@ -163,7 +164,7 @@ static unsigned run_lower(pair *p)
 
 /* ---- Writes */
 
-/* In Operational the entry is locked, and that is checked first. An upload in between would end, so that scene is left out. */
+/* In Operational the entry is locked, and that is checked first. Stopped answers nothing, and an open upload would end: neither is for here. */
 static unsigned run_writes(pair *p, int scene)
 {
     static const uint16_t entries[FLOATS] = { 0x6121, 0x6123, 0x6124 };
@@ -180,8 +181,10 @@ static unsigned run_writes(pair *p, int scene)
         const char *what = pair_serve(p, event);
         text_of_frames(reply, sizeof reply, lent_bytes(&p->out), p->count);
         snprintf(due, sizeof due, "581#80%02X%02X01%s", entry & 0xFF, entry >> 8, code);
-        if (what != NULL || p->number != 0 || strcmp(reply, due) != 0)
-            fail("nans", "%s, %08X into %04Xh: %s, not %s (%s)", scenes[scene].name, bits, entry, reply, due, what == NULL ? "both" : what);
+        if (what != NULL)
+            fail("nans", "%s, %08X into %04Xh: the proved node and the peer differ: %s", scenes[scene].name, bits, entry, what);
+        if (p->number != 0 || strcmp(reply, due) != 0)
+            fail("nans", "%s, %08X into %04Xh: number %u, %s and not %s", scenes[scene].name, bits, entry, p->number, reply, due);
         if (memcmp(&p->peer, &before.peer, sizeof p->peer) != 0 || memcmp(&p->store, &before.store, sizeof p->store) != 0)
             fail("nans", "%s, %08X into %04Xh: not refused without a trace", scenes[scene].name, bits, entry);
     }
@@ -253,8 +256,9 @@ int main(void)
     static pair p;
     unsigned states = run_lower(&p), writes = 0;
     for (int scene = 0; scene < SCENES; scene++) {
-        states += run_states(&p, scene, scene == 0, false) + run_states(&p, scene, false, true);
-        if (scenes[scene].set != scene_stopped && scenes[scene].set != scene_upload)
+        const bool stopped = scenes[scene].set == scene_stopped;
+        states += run_states(&p, scene, stopped, false) + run_states(&p, scene, false, true);
+        if (!stopped && scenes[scene].set != scene_upload)
             writes += run_writes(&p, scene);
     }
     const unsigned stores = run_stores(false) + run_stores(true);
