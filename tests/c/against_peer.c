@@ -74,7 +74,7 @@ int main(int count, char **words)
     for (uint32_t number = 1; number <= RUNS; number++)
         run(seed, number);
     printf("against_peer: %d events from %d first stores, seed %u, no difference: %u broken states,", RUNS * STEPS, RUNS, seed, broken_states);
-    tell_sights("against_peer");
+    tell_sights(stdout, "against_peer", 1);
     if (broken_states == 0)
         fail("against_peer", "no broken states in the whole run");
     return 0;

@@ -3,8 +3,6 @@
 #include "basics.h"
 #include "seumhwari.h"
 
-#include <stdio.h>
-
 static const char *const names[SIGHTS] = { "refused calls", "heartbeats", "TPDOs", "SRDO frames", "EMCYs", "reads", "writes", "aborts",
                                            "segments", "LSS answers", "stores written", "boot-ups", "starts" };
 static unsigned seen[SIGHTS];
@@ -33,12 +31,12 @@ void see_frames(const uint8_t *out, uint8_t count)
         see_frame(out + SEUMHWARI_FRAME * n);
 }
 
-void tell_sights(const char *test)
+void tell_sights(FILE *to, const char *test, unsigned least)
 {
     for (int i = 0; i < SIGHTS; i++)
-        printf("%s %u %s", i == 0 ? "" : ",", seen[i], names[i]);
-    printf("\n");
+        fprintf(to, "%s %u %s", i == 0 ? "" : ",", seen[i], names[i]);
+    fprintf(to, "\n");
     for (int i = 0; i < SIGHTS; i++)
-        if (seen[i] == 0)
-            fail(test, "no %s in the whole run", names[i]);
+        if (seen[i] < least)
+            fail(test, "%u %s in the whole run, where %u are the least", seen[i], names[i], least);
 }
