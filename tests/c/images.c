@@ -69,7 +69,7 @@ static uint32_t place(uint8_t image[SEUMHWARI_STORE], uint8_t *at, bool there, c
 }
 
 /* Packed from byte 0 in the order N, C, A; the trailer has the places of C, A, N. */
-static void pack(uint8_t image[SEUMHWARI_STORE], const records *r)
+void pack_image(uint8_t image[SEUMHWARI_STORE], const records *r)
 {
     uint8_t at = 0;
     memset(image, 0, SEUMHWARI_STORE);
@@ -136,7 +136,7 @@ static void make_packed(uint8_t image[SEUMHWARI_STORE], image_kind kind, chance 
         leave_range(r, c);
     if (kind == FALSE_VALIDITY)
         belie(r, c);
-    pack(image, r);
+    pack_image(image, r);
     if (kind == BAD_CRC)
         image[below(c, SEUMHWARI_STORE)] ^= (uint8_t)(1u << below(c, 8));
     if (kind == MISPLACED)

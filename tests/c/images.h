@@ -21,4 +21,7 @@ const char *image_name(image_kind kind);
 /* Makes an image of that kind; a GOOD one also tells its records. */
 void make_image(uint8_t image[SEUMHWARI_STORE], image_kind kind, chance *c, records *made);
 
+/* The image of these records, whatever they hold, with the right places and CRC. */
+void pack_image(uint8_t image[SEUMHWARI_STORE], const records *r);
+
 #endif

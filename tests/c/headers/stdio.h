@@ -6,6 +6,7 @@ extern FILE *stdin, *stdout, *stderr;
 FILE *fopen(const char *path, const char *mode);
 int fclose(FILE *file);
 int fflush(FILE *file);
+int setvbuf(FILE *file, char *buffer, int mode, size_t size);
 char *fgets(char *line, int size, FILE *file);
 size_t fread(void *to, size_t size, size_t count, FILE *file);
 size_t fwrite(const void *from, size_t size, size_t count, FILE *file);
@@ -20,4 +21,5 @@ int fgetc(FILE *file);
 int puts(const char *line);
 int putchar(int byte);
 #define EOF (-1)
+#define _IOFBF 0
 #endif
