@@ -15,8 +15,9 @@
  *
  * What C owes: each pointer may be read, and out and store also written, for the length given with
  * it; out and store overlap neither each other nor event; a bool is 0 or 1 (any C compiler sees to
- * that, a memcpy from a foreign image may not). Nothing else is owed: any bytes, any lengths and any
- * state are answered.
+ * that, a memcpy from a foreign image may not); floating point is as a program starts with it:
+ * rounding to nearest, no flushing of subnormals to zero. Nothing else is owed: any bytes, any
+ * lengths and any state are answered.
  *
  * The archive is x86-64 code: rt staticlib port writes target/staticlib/libport.a. */
 #ifndef SEUMHWARI_H
