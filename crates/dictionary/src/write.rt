@@ -133,7 +133,7 @@ fn range_code(verdict: Verdict) -> u32
     }
 }
 
-// A5h into a validity byte that it would make false, judged by the signature in force.
+// A5h for a validity byte that could not vouch: by the values in force its group is not valid.
 fn unearned(p: Parameter, v: Value, s: State) -> bool
     ensures { λ r. ⌜ r ≡ Sdo.unearned p v s ⌝ }
 {

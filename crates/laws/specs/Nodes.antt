@@ -46,7 +46,7 @@ isLoad SavePending = false
 
 -- ---- The wrong nodes
 
--- one that saves all at the first save and nothing later
+-- one whose first save is its last: a store that is good stays as it is
 abbrev pub savesOnce : Node
 savesOnce =
     serving (λ (e : List ℕ) (s : State) (st : List ℕ).

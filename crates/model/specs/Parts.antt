@@ -121,7 +121,7 @@ isOperational c = eqb (c .nmt) Operational
 abbrev pub isPreOperational : Core → Bool
 isPreOperational c = eqb (c .nmt) PreOperational
 
--- ---- Document 01, "Readings": they always follow the present FV and the parameters in force
+-- ---- Document 01, "Readings": made anew from FV and the parameters whenever they are asked for
 
 -- PV
 abbrev pub pv : State → Pv

@@ -107,7 +107,7 @@ rangeCode Outside = invalidValue
 rangeCode Above = tooHigh
 rangeCode Below = tooLow
 
--- A5h into a validity byte that it would make false
+-- A5h for a validity byte that could not vouch: the group is not valid
 unfoldable pub unearned : Parameter → Value → State → Bool
 unearned p v s =
     same p (validityOf (row p .group)) && (eqb (numberOf v) A5h && not (valid (row p .group) (inForce (s .settings))))
@@ -284,7 +284,7 @@ opened (At (Setting p)) = noUpload
 opened (At (SaveWord gs)) = noUpload
 opened (At (LoadWord gs)) = noUpload
 
--- the upload after each request: a new initiate drops an open one, and every abort ends it
+-- the upload after each request: only the next segment keeps an open one, and only a read of the name opens one
 unfoldable pub uploadAfter : SdoRequest → Upload → Upload
 uploadAfter (R.Download index sub size d) u = noUpload
 uploadAfter (R.Upload index sub) u = opened (find index sub)

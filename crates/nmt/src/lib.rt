@@ -44,7 +44,7 @@ pub fn start_obeyed(k: Settings) -> bool
         & ((k.communication.srdo.direction == 0) | (k.communication.valid == 0xa5))
 }
 
-// Start. Entering Operational restarts TPDO and SRDO; in Operational it does nothing.
+// Start: on the way into Operational TPDO and SRDO begin anew; a node that is there already stays as it is.
 pub fn start(k: Settings, c: Core) -> Core
     ensures { λ r. ⌜ r ≡ Nmt.start k c ⌝ }
 {

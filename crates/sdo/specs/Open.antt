@@ -3,6 +3,6 @@ use mathlib.Core.Bool.{Bool, _||_}
 use Rattle.model.specs.declared.Upload.{Upload}
 use Rattle.model.specs.Rules.{stands}
 
--- before one of the name's three segments: at byte 0, 7 or 14, with toggle 0, 1, 0; the rule `ruleUpload` says so of an open upload
+-- before one of the name's three segments, with the toggle that is its turn; the rule `ruleUpload` says so of an open upload
 abbrev pub atSegment : Upload → Bool
 atSegment u = stands 0 0 u || (stands 7 1 u || stands 14 0 u)

@@ -33,7 +33,7 @@ pub struct Served {
     pub reply: Reply,
 }
 
-// The upload after a request: a new initiate drops an open one, and every abort ends it.
+// The upload after a request: only the next segment keeps an open one, and only a read of the name opens one.
 pub fn upload_after(request: SdoRequest, s: State) -> Upload
     requires { ⌜ ruleUpload s ≡ true ⌝ }
     ensures { λ r. ⌜ r ≡ Sdo.uploadAfter request (s .core .upload) ⌝ }

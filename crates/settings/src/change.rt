@@ -198,7 +198,7 @@ fn revoke(k: Settings, c: bool, a: bool) -> Settings
 
 // ---- The changes
 
-// The settings after a write. The same bytes again are no change; 0.0 to -0.0 is one.
+// The settings after a write. What counts as a change is told by the bytes: -0.0 over 0.0 is one, a value over itself is none.
 pub fn write(k: Settings, p: Parameter, v: Value) -> Settings
     requires { ⌜ kindOf v ≡ row p .kind ⌝ }
     ensures { λ r. ⌜ r ≡ applied (Write p v) k nothing ⌝ }
