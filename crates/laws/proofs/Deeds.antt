@@ -45,54 +45,48 @@ use Rattle.laws.proofs.Allowed.{Allowed, id-ok, change-allowed}
 use Rattle.laws.proofs.Loading.{address-held}
 use Rattle.laws.proofs.LookBack.{idAfter, pairAfter}
 
--- ---- the active pair: a load alone sets it
+-- ---- the active and the pending pair: a load alone sets the active one
 
-restart-active : (t : Timer) (c : Core) → restart t c .active ≡ c .active
-restart-active NoTimer c = refl
-restart-active Heartbeat c = refl
-restart-active Tpdo c = refl
-restart-active Srdo c = refl
+-- both are as they were
+abbrev Both-as : Core → Core → Type 0
+Both-as c d = (d .active ≡ c .active) × (d .pending ≡ c .pending)
+
+restart-both : (t : Timer) (c : Core) → Both-as c (restart t c)
+restart-both NoTimer c = (refl, refl)
+restart-both Heartbeat c = (refl, refl)
+restart-both Tpdo c = (refl, refl)
+restart-both Srdo c = (refl, refl)
+
+start-both : (k : Settings) (c : Core) → Both-as c (start k c)
+unfolding start
+start-both k c = cond-case (Both-as c) (not (isOperational c) && startObeyed k) (λ _. (refl, refl)) (λ _. (refl, refl))
+
+commanded-both : (command to : ℕ) (s : State) → Both-as (s .core) (commanded command to s)
+unfolding commanded obeyed stop
+commanded-both command to s =
+    cond-case (Both-as (s .core)) (isFor to (idOf s))
+    (λ _. hit-case (Both-as (s .core)) _ _ ((λ _. start-both (s .settings) (s .core)), ((λ _. (refl, refl)), ((λ _. (refl, refl)), tt))) (refl, refl))
+    (λ _. (refl, refl))
 
 abbrev Stays : Core → Core → Type 0
 Stays c d = d .active ≡ c .active
 
-start-pending : (k : Settings) (c : Core) → start k c .pending ≡ c .pending
-unfolding start
-start-pending k c = cond-case (λ (d : Core). d .pending ≡ c .pending) (not (isOperational c) && startObeyed k) (λ _. refl) (λ _. refl)
-
-restart-pending : (t : Timer) (c : Core) → restart t c .pending ≡ c .pending
-restart-pending NoTimer c = refl
-restart-pending Heartbeat c = refl
-restart-pending Tpdo c = refl
-restart-pending Srdo c = refl
-
-start-active : (k : Settings) (c : Core) → start k c .active ≡ c .active
-unfolding start
-start-active k c = cond-case (Stays c) (not (isOperational c) && startObeyed k) (λ _. refl) (λ _. refl)
-
 heard-active : (v : Service) (s : State) → heard v s .active ≡ s .core .active
-unfolding heard ticked commanded obeyed stop synced remoteAnswered
+unfolding heard ticked synced remoteAnswered
 heard-active Nothing s = refl
 heard-active Tick s = refl
 heard-active (Sample fv) s = refl
-heard-active (Nmt command to) s =
-    cond-case (Stays (s .core)) (isFor to (idOf s))
-    (λ _. hit-case (Stays (s .core)) _ _ ((λ _. start-active (s .settings) (s .core)), ((λ _. refl), ((λ _. refl), tt))) refl)
-    (λ _. refl)
+heard-active (Nmt command to) s = commanded-both command to s .0
 heard-active Sync s = cond-case (Stays (s .core)) (isOperational (s .core)) (λ _. refl) (λ _. refl)
 heard-active (Remote to) s = cond-case (Stays (s .core)) (answersRemote to s) (λ _. refl) (λ _. refl)
 heard-active (Sdo to r) s = cond-case (Stays (s .core)) (serves to s) (λ _. refl) (λ _. refl)
 heard-active (Lss r) s = cond-case (Stays (s .core)) (isPreOperational (s .core)) (λ _. refl) (λ _. refl)
 
 -- a reset leaves both pairs as its load made them
-abbrev Both-as : Core → Core → Type 0
-Both-as c d = (d .active ≡ c .active) × (d .pending ≡ c .pending)
-
 reset-both : (gs : Groups) (id : ℕ) (sv : Saved) (k : Settings) (c : Core) → Both-as (readied gs id sv c) (reset gs id sv k c)
 unfolding reset autoStart cleared
 reset-both gs id sv k c =
-    let d = cleared (readied gs id sv c) in
-    cond-case (Both-as (readied gs id sv c)) (eqb (k .application .autostart) 1) (λ _. (start-active k d, start-pending k d)) (λ _. (refl, refl))
+    cond-case (Both-as (readied gs id sv c)) (eqb (k .application .autostart) 1) (λ _. start-both k (cleared (readied gs id sv c))) (λ _. (refl, refl))
 
 readied-id : (gs : Groups) (id : ℕ) (sv : Saved) (c : Core) → has gs C ≡ true → readied gs id sv c .active .id ≡ id
 unfolding readied
@@ -107,7 +101,7 @@ pub core-id : (c : Change) (v : Service) (s : State) (sv : Saved) (k : Settings)
     → coreAfter c v s sv k .active .id ≡ idAfter c (idOf s)
 unfolding coreAfter
 core-id Keep v s sv k a = ap (λ (x : Address). x .id) (heard-active v s)
-core-id (Write p x) v s sv k a = ap (λ (y : Address). y .id) (restart-active (timerOf p) (heard v s) ∙ heard-active v s)
+core-id (Write p x) v s sv k a = ap (λ (y : Address). y .id) (restart-both (timerOf p) (heard v s) .0 ∙ heard-active v s)
 core-id (Save gs) v s sv k a = ap (λ (x : Address). x .id) (heard-active v s)
 core-id (TakeOut gs) v s sv k a = ap (λ (x : Address). x .id) (heard-active v s)
 core-id (Load gs id) v s sv k a = reset-id gs id sv k (s .core) (a .1)
@@ -240,14 +234,6 @@ lss-pending s more q (AskIdentity n) = same-pending s more (AskIdentity n) (λ f
 lss-pending s more q AskNodeId = same-pending s more AskNodeId (λ f. refl)
 lss-pending s more q OtherLss = same-pending s more OtherLss (λ f. refl)
 
--- the commands leave the pending pair
-commanded-pending : (command to : ℕ) (s : State) → commanded command to s .pending ≡ s .core .pending
-unfolding commanded obeyed stop
-commanded-pending command to s =
-    cond-case (λ (d : Core). d .pending ≡ s .core .pending) (isFor to (idOf s))
-    (λ _. hit-case (λ (d : Core). d .pending ≡ s .core .pending) _ _ ((λ _. start-pending (s .settings) (s .core)), ((λ _. refl), ((λ _. refl), tt))) refl)
-    (λ _. refl)
-
 module _ (s : State) (st : List ℕ) (more : List Frame) (q : Quiet more) where
   -- the pending pair that the request leaves
   abbrev Leaves : Service → Type 0
@@ -258,7 +244,7 @@ module _ (s : State) (st : List ℕ) (more : List Frame) (q : Quiet more) where
   pending-left Nothing = refl
   pending-left Tick = refl
   pending-left (Sample fv) = refl
-  pending-left (Nmt command to) = sym (commanded-pending command to s)
+  pending-left (Nmt command to) = sym (commanded-both command to s .1)
   pending-left Sync = cond-case (λ (d : Core). s .core .pending ≡ d .pending) (isOperational (s .core)) (λ _. refl) (λ _. refl)
   pending-left (Remote to) = cond-case (λ (d : Core). s .core .pending ≡ d .pending) (answersRemote to s) (λ _. refl) (λ _. refl)
   pending-left (Sdo to r) = cond-case (λ (d : Core). s .core .pending ≡ d .pending) (serves to s) (λ _. refl) (λ _. refl)
@@ -335,7 +321,7 @@ module _ (v : Service) (s : State) (sv : Saved) (k : Settings) where
       (coreAfter c v s sv k .active ≡ m .active) × (coreAfter c v s sv k .pending ≡ m .pending)
   unfolding coreAfter moved
   core-both Keep = (heard-active v s, refl)
-  core-both (Write p x) = (restart-active (timerOf p) (heard v s) ∙ heard-active v s, restart-pending (timerOf p) (heard v s))
+  core-both (Write p x) = (restart-both (timerOf p) (heard v s) .0 ∙ heard-active v s, restart-both (timerOf p) (heard v s) .1)
   core-both (Save gs) = (heard-active v s, refl)
   core-both (TakeOut gs) = (heard-active v s, refl)
   core-both (Load gs id) =
