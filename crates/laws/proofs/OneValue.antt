@@ -9,7 +9,7 @@ use native.Mathlib.Omega.{arith}
 use native.Mathlib.Nat.{min-eq-left}
 use lib.Dec.{T, eqb}
 use borrow.Author.Tests.{eqb-true}
-use lib.ListN.{length, take, drop, length-take, length-drop, take-append-drop, drop-of-length-le}
+use lib.ListN.{length, drop, length-take, length-drop, take-append-drop, drop-of-length-le}
 use lib.Seq.{drop-drop}
 use lib.Ieee.{Float, nan, inf, fin, binary32, ofBits, isNan}
 use Rattle.model.specs.declared.Value.{Value}
@@ -19,7 +19,7 @@ use Rattle.model.specs.declared.Parameter.{Parameter}
 use Rattle.model.specs.declared.Group.{Group}
 use Rattle.model.specs.declared.Group.the-variants.{C, A}
 use Rattle.model.specs.Bytes.{Bytes, lowBytes, asNumber, part, numberAt}
-use Rattle.model.specs.Values.{widthOf, kindOf, numberOf, typed, encoded}
+use Rattle.model.specs.Values.{widthOf, typed, encoded}
 use Rattle.model.specs.Reading.{judgeReal}
 use Rattle.model.specs.Settings.{Range, all, between, oneOf, real, row, rows, bytesOf, judge, isInside, inRanges}
 use Rattle.model.specs.Validity.{validityOf, honest, sound}

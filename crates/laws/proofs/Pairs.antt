@@ -8,7 +8,7 @@ use Prim.Native.Nat.{ℕ, _+_, _-_, _^_, _≤_, _<_}
 use native.Mathlib.Omega.{arith}
 use lib.Dec.{eqb, leb}
 use lib.ListN.{length}
-use lib.Ieee.{binary32, toBits}
+use lib.Ieee.{binary32}
 use lib.Ieee.Bits.{toBits-lt}
 use lib.Ieee.Fits.{add-fits}
 use borrow.Author.Tests.{eqb-true, lt-leb, not-true}
@@ -28,9 +28,9 @@ use Rattle.model.specs.declared.Frame.{Frame}
 use Rattle.model.specs.declared.Identity.{Identity}
 use Rattle.model.specs.declared.Settings.{Settings}
 use Rattle.model.specs.declared.State.{State}
-use Rattle.model.specs.Bytes.{lowBytes, within}
-use Rattle.model.specs.Reading.{pvOf, integerOf}
-use Rattle.model.specs.Frames.{frame, when, sdoReplies, heartbeats, tpdos, emcys}
+use Rattle.model.specs.Bytes.{within}
+use Rattle.model.specs.Reading.{pvOf}
+use Rattle.model.specs.Frames.{when, sdoReplies, heartbeats, tpdos, emcys}
 use Rattle.model.specs.Settings.{inForce, rows, inRanges}
 use Rattle.model.specs.Validity.{signs, valid, vouched, honest, sound}
 use Rattle.model.specs.Store.{read, addressFrom}
@@ -45,7 +45,7 @@ use Rattle.model.specs.Lss.{answered, lssReply}
 use Rattle.model.specs.Rules.{rules}
 use Rattle.model.specs.Step.{done, refusal, powerOnRefusal, changeOf, reply, booted, heard, coreAfter, changed, reports, served, step, unborn, powerOn}
 use Rattle.model.specs.Run.{Call, Line, sentIn, World, begun, continued}
-use Rattle.model.specs.Pairs.{safety, bitsOf, Pair, Safe, none, other, pair}
+use Rattle.model.specs.Pairs.{safety, bitsOf, Safe, none, other, pair}
 use Rattle.laws.proofs.Ids.{read-id, write-id, segment-id}
 use Rattle.laws.proofs.Tests.{cond-case, and-l, and-r, and-false, implies, within-is}
 use Rattle.laws.proofs.Loading.{address-ok}

@@ -6,7 +6,6 @@ use mathlib.Core.List.{List, [], _∷_}
 use Prim.Native.Nat.{ℕ}
 use lib.Dec.{eqb}
 use lib.ListN.{length}
-use Rattle.model.specs.declared.Parameter.{Parameter}
 use Rattle.model.specs.declared.Group.the-variants.{C, A}
 use Rattle.model.specs.declared.Groups.{Groups}
 use Rattle.model.specs.declared.Groups.the-variants.{Both, OnlyC, OnlyA}
@@ -33,8 +32,8 @@ use Rattle.model.specs.Nmt.{isFor, startObeyed, start, stop, obeyed, commanded,
 use Rattle.model.specs.Sdo.{serves}
 use Rattle.model.specs.Rules.{rules}
 use Rattle.model.specs.Step.{done, refusal, powerOnRefusal, changeOf, heard, coreAfter, served, step, unborn, powerOn}
-use Rattle.model.specs.Run.{Call, Line, powered, called, sentIn, World, begun, after, continued, run}
-use Rattle.model.specs.History.{isServed, deeds, value}
+use Rattle.model.specs.Run.{Call, powered, World, begun, after, continued, run}
+use Rattle.model.specs.History.{isServed}
 use Rattle.model.specs.Pairs.{Safe, none, zeroFv, sampledIn, fvAfter, fvOf, settingsTold, SafeLog}
 use Rattle.laws.proofs.Tests.{cond-case, hit-case}
 use Rattle.laws.proofs.Allowed.{Allowed, change-allowed}
