@@ -3,9 +3,8 @@
 -- request; not its number, and not the ID of a boot-up. First the deed of each line, then the look back over the deeds, newest first. Assumes nothing.
 use Prim.Native.Nat.{ℕ, _+_}
 use mathlib.Core.Bool.{Bool, false, cond, not, _&&_}
-use mathlib.Core.List.{List, [], _∷_}
-use lib.Dec.{eqb, ltb}
-use lib.ListN.{length}
+use mathlib.Core.List.{List, [], _∷_, _++_}
+use lib.Dec.{eqb}
 use Rattle.model.specs.declared.Value.{Value}
 use Rattle.model.specs.declared.Value.the-variants.{U8}
 use Rattle.model.specs.declared.Parameter.{Parameter}
@@ -23,8 +22,8 @@ use Rattle.model.specs.declared.Address.{Address}
 use Rattle.model.specs.declared.Frame.{Frame}
 use Rattle.model.specs.declared.Core.{Core}
 use Rattle.model.specs.Choice.{_⇒_, firstHit}
-use Rattle.model.specs.Bytes.{byteAt, within}
-use Rattle.model.specs.Frames.{kindOfEvent, sdoReplies, lssAnswers}
+use Rattle.model.specs.Bytes.{byteAt}
+use Rattle.model.specs.Frames.{sdoReplies, lssAnswers}
 use Rattle.model.specs.Settings.{row, same, has}
 use Rattle.model.specs.Validity.{validityOf, revokes, changes}
 use Rattle.model.specs.Store.{Saved, savedN, saved, field, defaultFor, followsId}
@@ -33,7 +32,7 @@ use Rattle.model.specs.Dictionary.{find}
 use Rattle.model.specs.Service.{service, lssNodeId, lssBitIndex, lssStore}
 use Rattle.model.specs.Nmt.{isFor, resetNodeCommand, resetCommunicationCommand}
 use Rattle.model.specs.Sdo.{asked}
-use Rattle.model.specs.Step.{done, notAnEvent, unknownKind, badFrame, shortOutput, outputSize, badFrameIn}
+use Rattle.model.specs.Step.{done, byEvent, byOutput}
 use Rattle.model.specs.Run.{Line, powered, called}
 
 -- ---- Which calls are served
@@ -41,14 +40,7 @@ use Rattle.model.specs.Run.{Line, powered, called}
 -- the refusal of a call, by its event's bytes and its output's length: in a run the store keeps its size and the state its rules, so that 5 and 6
 -- never come
 unfoldable pub lineRefusal : List ℕ → ℕ → ℕ
-lineRefusal e room =
-    firstHit
-    ((not (eqb (length e) 13) ⇒ notAnEvent)
-    ∷ (not (within 1 3 (kindOfEvent e)) ⇒ unknownKind)
-    ∷ (eqb (kindOfEvent e) 1 && badFrameIn e ⇒ badFrame)
-    ∷ (ltb room outputSize ⇒ shortOutput)
-    ∷ [])
-    done
+lineRefusal e room = firstHit (byEvent e ++ byOutput room) done
 
 abbrev pub isServed : List ℕ → ℕ → Bool
 isServed e room = eqb (lineRefusal e room) done

@@ -20,7 +20,7 @@ use Rattle.model.specs.declared.Settings.{Settings}
 use Rattle.model.specs.declared.Core.{Core}
 use Rattle.model.specs.declared.State.{State}
 use Rattle.model.specs.declared.Answer.{Answer}
-use Rattle.model.specs.Choice.{_⇒_, firstHit}
+use Rattle.model.specs.Choice.{Arm, _⇒_, firstHit}
 use Rattle.model.specs.Bytes.{within}
 use Rattle.model.specs.Frames.{kindOfEvent, canId, flagIn, lengthIn, when, overlay}
 use Rattle.model.specs.Settings.{made}
@@ -69,22 +69,30 @@ storeSize = 64
 abbrev pub badFrameIn : List ℕ → Bool
 badFrameIn e = ltb 2047 (canId e) || (ltb 1 (flagIn e) || ltb 8 (lengthIn e))
 
--- the refusal of an event, by the lengths of output and store
-unfoldable pub refusal : List ℕ → State → ℕ → ℕ → ℕ
-refusal e s out st =
-    firstHit
-    ((not (eqb (length e) 13) ⇒ notAnEvent)
+-- the table's rows: by the event's bytes, by the lengths of output and store, by the state
+abbrev pub byEvent : List ℕ → List (Arm ℕ)
+byEvent e =
+    (not (eqb (length e) 13) ⇒ notAnEvent)
     ∷ (not (within 1 3 (kindOfEvent e)) ⇒ unknownKind)
     ∷ (eqb (kindOfEvent e) 1 && badFrameIn e ⇒ badFrame)
-    ∷ (ltb out outputSize ⇒ shortOutput)
-    ∷ (not (eqb st storeSize) ⇒ wrongStore)
-    ∷ (not (rules s) ⇒ brokenState)
-    ∷ [])
-    done
+    ∷ []
+
+abbrev pub byOutput : ℕ → List (Arm ℕ)
+byOutput out = (ltb out outputSize ⇒ shortOutput) ∷ []
+
+abbrev pub byStore : ℕ → List (Arm ℕ)
+byStore st = (not (eqb st storeSize) ⇒ wrongStore) ∷ []
+
+abbrev pub byState : State → List (Arm ℕ)
+byState s = (not (rules s) ⇒ brokenState) ∷ []
+
+-- the refusal of an event; out and st are the lengths of output and store
+unfoldable pub refusal : List ℕ → State → ℕ → ℕ → ℕ
+refusal e s out st = firstHit (byEvent e ++ (byOutput out ++ (byStore st ++ byState s))) done
 
 -- the refusal of a power-on
 unfoldable pub powerOnRefusal : ℕ → ℕ → ℕ
-powerOnRefusal out st = firstHit ((ltb out outputSize ⇒ shortOutput) ∷ (not (eqb st storeSize) ⇒ wrongStore) ∷ []) done
+powerOnRefusal out st = firstHit (byOutput out ++ byStore st) done
 
 -- ---- What a service changes, replies, and does to the rest of the state
 
