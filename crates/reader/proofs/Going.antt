@@ -1,0 +1,196 @@
+-- What a record leaves, as the functions of the reader have it, and records one after the other. Assumes nothing.
+use mathlib.Core.Path.{_≡_, refl, sym, ap, _∙_}
+use mathlib.Core.Bool.{Bool, true, false, cond}
+use mathlib.Core.List.{List, [], _∷_, _++_, append-assoc}
+use Prim.Native.Nat.{ℕ, _+_, _-_, _*_, _%_, _^_, _≤_, _<_}
+use native.Mathlib.Omega.{arith}
+use native.Mathlib.Numerals.{add-one}
+use borrow.Author.Tests.{ltb-true, ltb-false, lt-ltb, le-ltb, eqb-true}
+use lib.Dec.{ltb, eqb}
+use lib.ListN.{length, take, drop, length-take, length-drop, length-append, drop-of-length-le}
+use lib.Seq.{take-all}
+use Rattle.model.specs.declared.State.{State}
+use Rattle.model.specs.Run.{Call, Line, World, sentIn, run, continued}
+use Rattle.model.specs.Program.{lineText, endLine, records}
+use Rattle.wire.proofs.Puts.{take-put}
+use Rattle.text.specs.Written.{Written}
+use Rattle.program.specs.declared.Turn.{Turn}
+use Rattle.program.specs.Turns.{calling, world, Turned}
+use Rattle.reader.specs.declared.Run.{Run}
+use Rattle.reader.specs.Reads.{Kept, kept, stays, noted, allNoted, Roomy, Went, Took, Ended}
+use Rattle.reader.proofs.Cut.{no-records, first-record, one-more, enough, joined}
+
+-- ---- One after the other
+
+run-one : (c : Call) (w : World) → run (c ∷ []) w ≡ continued c w
+unfolding run continued
+run-one c w = refl
+
+run-append : (cs ds : List Call) (w : World) → run (cs ++ ds) w ≡ run ds (run cs w)
+unfolding run continued
+run-append [] ds w = refl
+run-append (c ∷ cs) ds w = run-append cs ds (continued c w)
+
+noted-append : (news olds : List Line) (k : Kept) → allNoted (news ++ olds) k ≡ allNoted news (allNoted olds k)
+unfolding allNoted
+noted-append [] olds k = refl
+noted-append (l ∷ news) olds k = ap (noted l) (noted-append news olds k)
+
+-- no records
+pub none-went : (r : Run) (xs st : List ℕ) → Went [] r xs st xs st r
+unfolding run allNoted
+none-went r xs st = record { lines = []; goes-on = λ log. refl; keeps = refl; closed = λ h. h }
+
+-- some, and then some more
+pub then-went : {cs ds : List Call} {r q p : Run} {xs st ys zs us vs : List ℕ} → Went cs r xs st ys zs q → Went ds q ys zs us vs p
+    → Went (cs ++ ds) r xs st us vs p
+then-went {cs} {ds} {r} {q} {p} {xs} {st} {ys} {zs} {us} {vs} w v =
+    record {
+      lines = v .lines ++ w .lines;
+      goes-on = λ log.
+          run-append cs ds (world (r .state) st log)
+          ∙ ap (run ds) (w .goes-on log)
+          ∙ v .goes-on (w .lines ++ log)
+          ∙ ap (world (p .state) vs) (sym (append-assoc (v .lines) (w .lines) log));
+      keeps = v .keeps ∙ ap (allNoted (v .lines)) (w .keeps) ∙ sym (noted-append (v .lines) (w .lines) (kept r xs));
+      closed = λ h. w .closed (v .closed h);
+    }
+
+-- ---- Room
+
+-- text handed over, and the output perhaps found closed
+pub emptied : {r : Run} {b : Bool} → 16216 < r .fill → (b ≡ true → r .«open» ≡ true)
+    → Roomy r (record { state = r .state; records = r .records; frames = r .frames; fill = 0; more = r .more; «open» = b })
+emptied {r} {b} h closed =
+    let full = lt-ltb 16216 (r .fill) h in
+    record {
+      same = rw full refl;
+      room = omega arith;
+      closed = closed;
+    }
+
+-- room as it is
+pub untouched : {r : Run} → r .fill ≤ 16216 → Roomy r r
+untouched {r} h =
+    let free = le-ltb 16216 (r .fill) h in
+    record { same = rw free refl; room = omega arith; closed = λ o. o }
+
+-- ---- One record
+
+-- what stays, in the program's numbers
+pub stays-take : (f : ℕ) (xs : List ℕ) → length xs ≡ 16384 → take (cond (ltb 16216 f) 0 f) xs ≡ stays (take f xs)
+unfolding stays
+stays-take f xs long = go (ltb 16216 f) refl
+  where
+    go : (b : Bool) → ltb 16216 f ≡ b → take (cond b 0 f) xs ≡ stays (take f xs)
+    go true e =
+        let h : 16216 < f = ltb-true 16216 f e in
+        rw (lt-ltb 16216 (length (take f xs)) (omega (arith, length-take f xs))) refl
+    go false e =
+        let h : f ≤ 16216 = ltb-false 16216 f e in
+        rw (le-ltb 16216 (length (take f xs)) (omega (arith, length-take f xs))) refl
+
+-- room for a text, and the text
+pub roomy-text : {r q : Run} {k n : ℕ} {text xs ys : List ℕ} → length xs ≡ 16384 → Roomy r q → Written k text (q .fill) xs ys n
+    → take n ys ≡ stays (take (r .fill) xs) ++ text
+roomy-text {r} {q} {k} {n} {text} {xs} {ys} long h w =
+    let fits : q .fill ≤ length xs = omega (arith, h .room) in
+    ap (λ (m : ℕ). take m ys) (w .place)
+    ∙ ap (take (q .fill + length text)) (w .bytes)
+    ∙ take-put (q .fill) text xs fits
+    ∙ ap (λ (m : ℕ). take m xs ++ text) (ap (λ (p : Run). p .fill) (h .same))
+    ∙ ap (λ (t : List ℕ). t ++ text) (stays-take (r .fill) xs long)
+
+-- one record, by its call
+pub one-went : {e xs st ys zs : List ℕ} {r q : Run} {t : Turn} {n f : ℕ} → length xs ≡ 16384 → Roomy r q → n ≡ (q .records + 1) % 2 ^ 64
+    → f ≡ (q .frames + t .frames) % 2 ^ 64 → Turned e n (q .state) st (q .fill) xs ys zs t
+    → Went (calling e ∷ []) r xs st ys zs (record { state = t .state; records = n; frames = f; fill = t .at; more = q .more; «open» = q .«open» })
+unfolding allNoted noted
+one-went {e} {xs} {st} {ys} {zs} {r} {q} {t} {n} {f} long h c d u =
+    let number : n ≡ (r .records + 1) % 2 ^ 64 = c ∙ ap (λ (p : Run). (p .records + 1) % 2 ^ 64) (h .same) in
+    let count : f ≡ (r .frames + length (sentIn (u .line))) % 2 ^ 64 =
+    d ∙ ap (λ (p : Run). (p .frames + t .frames) % 2 ^ 64) (h .same) ∙ ap (λ (m : ℕ). (r .frames + m) % 2 ^ 64) (u .frames) in
+    let text : take (t .at) ys ≡ stays (take (r .fill) xs) ++ lineText ((r .records + 1) % 2 ^ 64) (u .line) =
+    roomy-text long h (u .text) ∙ ap (λ (m : ℕ). stays (take (r .fill) xs) ++ lineText m (u .line)) number in
+    record {
+      lines = u .line ∷ [];
+      goes-on = λ log. run-one (calling e) (world (r .state) st log) ∙ ap (λ (p : Run). continued (calling e) (world (p .state) st log)) (sym (h .same)) ∙ u .goes-on log;
+      keeps = λ i. record { records = number i; frames = count i; waits = text i };
+      closed = h .closed;
+    }
+
+-- ---- The record at a place, by its bytes as the program cuts them
+
+-- none
+pub past-end : (i : ℕ) (s : List ℕ) {r : Run} {xs st : List ℕ} → length s ≤ i → Went (records 1 (drop i s)) r xs st xs st r
+past-end i s {r} {xs} {st} h = rw (drop-of-length-le s {i = i} h, no-records 1) (none-went r xs st)
+
+module _ (i : ℕ) (s : List ℕ) {r q : Run} {xs st ys zs : List ℕ} where
+  -- fewer than 13 bytes
+  pub short-record : i < length s → length s - i < 13 → Went (calling (take (length s - i) (drop i s)) ∷ []) r xs st ys zs q
+      → Went (records 1 (drop i s)) r xs st ys zs q
+  short-record h k w =
+      let n = length-drop i s in
+      let same : take (length s - i) (drop i s) ≡ take 13 (drop i s) = take-all (length s - i) (drop i s) (omega arith) ∙ sym (take-all 13 (drop i s) (omega arith)) in
+      rw (first-record (drop i s) (omega arith), ← same) w
+
+  -- 13 bytes
+  pub whole-record : i < length s → Went (calling (take (i + 13 - i) (drop i s)) ∷ []) r xs st ys zs q → Went (records 1 (drop i s)) r xs st ys zs q
+  whole-record h w =
+      let n = length-drop i s in
+      let e : i + 13 - i ≡ 13 = omega arith in
+      rw (first-record (drop i s) (omega arith), ← e) w
+
+-- ---- The records of a buffer, a turn each
+
+pub no-turns : (s xs st : List ℕ) (r : Run) → Went (records 0 s) r xs st xs st r
+unfolding records
+no-turns s xs st r = none-went r xs st
+
+pub more-went : (k : ℕ) (s : List ℕ) {r q p : Run} {xs st ys zs us vs : List ℕ} → Went (records k s) r xs st ys zs q
+    → Went (records 1 (drop (13 * k) s)) q ys zs us vs p → Went (records (k + 1) s) r xs st us vs p
+more-went k s w v = rw (add-one k, one-more k s) (then-went w v)
+
+pub all-went : (k : ℕ) (s : List ℕ) {r q : Run} {xs st ys zs : List ℕ} → length s ≤ 13312 → 1024 ≤ k → Went (records k s) r xs st ys zs q
+    → Went (records (length s) s) r xs st ys zs q
+all-went k s long h w = rw (enough (length s) k s (omega arith) (omega arith)) w
+
+-- ---- Buffers
+
+-- the flag for more to read is no part of it
+pub flagged : {cs : List Call} {r q : Run} {xs st ys zs : List ℕ} {b : Bool} → Went cs r xs st ys zs q
+    → Went cs r xs st ys zs (record { state = q .state; records = q .records; frames = q .frames; fill = q .fill; more = b; «open» = q .«open» })
+flagged w = record { lines = w .lines; goes-on = w .goes-on; keeps = w .keeps; closed = w .closed }
+
+-- nothing was read yet
+pub none-took : (r : Run) (xs st : List ℕ) → Took r xs st xs st r
+none-took r xs st = record { bytes = []; went = no-turns [] xs st r; whole = λ more. refl }
+
+-- a buffer
+pub buffer-took : (s : List ℕ) {r q : Run} {xs st ys zs : List ℕ} → Went (records (length s) s) r xs st ys zs q
+    → q .more ≡ cond (q .«open») (eqb (length s) 13312) false → Took r xs st ys zs q
+buffer-took s {r} {q} w e = record { bytes = s; went = w; whole = λ more. full (q .«open») (sym e ∙ more) }
+  where
+    full : (o : Bool) → cond o (eqb (length s) 13312) false ≡ true → length s % 13 ≡ 0
+    full true h = let l : length s ≡ 13312 = eqb-true (length s) 13312 h in omega arith
+    full false h = let z : _≡_ {A = ℕ} 0 1 = cc in absurd (omega arith)
+
+-- what was read before, and a buffer more
+pub then-took : {r q p : Run} {xs st ys zs us vs : List ℕ} → q .more ≡ true → Took r xs st ys zs q → Took q ys zs us vs p → Took r xs st us vs p
+then-took {r} {q} {p} {xs} {st} {ys} {zs} {us} {vs} more a b =
+    let e : length (a .bytes) % 13 ≡ 0 = a .whole more in
+    record {
+      bytes = a .bytes ++ b .bytes;
+      went = rw (joined (a .bytes) (b .bytes) e) (then-went (a .went) (b .went));
+      whole = λ m. let f : length (b .bytes) % 13 ≡ 0 = b .whole m in rw (length-append (a .bytes) (b .bytes)) (omega arith);
+    }
+
+-- ---- The end
+
+pub ended : {r q : Run} {n : ℕ} {xs ys : List ℕ} → length xs ≡ 16384 → Roomy r q → Written 60 (endLine (q .records) (q .frames)) (q .fill) xs ys n
+    → Ended r xs ys
+ended {r} {q} {n} {xs} {ys} long h w =
+    record {
+      end = n;
+      bytes = roomy-text long h w ∙ ap (λ (p : Run). stays (take (r .fill) xs) ++ endLine (p .records) (p .frames)) (h .same);
+    }
