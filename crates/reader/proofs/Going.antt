@@ -8,7 +8,7 @@ use native.Mathlib.Numerals.{add-one}
 use borrow.Author.Tests.{ltb-true, ltb-false, lt-ltb, le-ltb, eqb-true}
 use lib.Dec.{ltb, eqb}
 use lib.ListN.{length, take, drop, length-take, length-drop, length-append, drop-of-length-le}
-use lib.Seq.{take-all}
+use lib.Seq.{take-all, take-take, take-at, length-take-le}
 use Rattle.model.specs.declared.State.{State}
 use Rattle.model.specs.Run.{Call, Line, World, sentIn, run, continued}
 use Rattle.model.specs.Program.{lineText, endLine, records}
@@ -37,9 +37,9 @@ noted-append [] olds k = refl
 noted-append (l ∷ news) olds k = ap (noted l) (noted-append news olds k)
 
 -- no records
-pub none-went : (r : Run) (xs st : List ℕ) → Went [] r xs st xs st r
+pub none-went : (r : Run) (xs st : List ℕ) → r .fill ≤ 16384 → Went [] r xs st xs st r
 unfolding run allNoted
-none-went r xs st = record { lines = []; goes-on = λ log. refl; keeps = refl; closed = λ h. h }
+none-went r xs st fits = record { lines = []; goes-on = λ log. refl; keeps = refl; fits = fits; closed = λ h. h }
 
 -- some, and then some more
 pub then-went : {cs ds : List Call} {r q p : Run} {xs st ys zs us vs : List ℕ} → Went cs r xs st ys zs q → Went ds q ys zs us vs p
@@ -53,6 +53,7 @@ then-went {cs} {ds} {r} {q} {p} {xs} {st} {ys} {zs} {us} {vs} w v =
           ∙ v .goes-on (w .lines ++ log)
           ∙ ap (world (p .state) vs) (sym (append-assoc (v .lines) (w .lines) log));
       keeps = v .keeps ∙ ap (allNoted (v .lines)) (w .keeps) ∙ sym (noted-append (v .lines) (w .lines) (kept r xs));
+      fits = v .fits;
       closed = λ h. w .closed (v .closed h);
     }
 
@@ -116,14 +117,16 @@ one-went {e} {xs} {st} {ys} {zs} {r} {q} {t} {n} {f} long h c d u =
       lines = u .line ∷ [];
       goes-on = λ log. run-one (calling e) (world (r .state) st log) ∙ ap (λ (p : Run). continued (calling e) (world (p .state) st log)) (sym (h .same)) ∙ u .goes-on log;
       keeps = λ i. record { records = number i; frames = count i; waits = text i };
+      fits = omega (arith, u .text .place, u .text .short, h .room);
       closed = h .closed;
     }
 
 -- ---- The record at a place, by its bytes as the program cuts them
 
 -- none
-pub past-end : (i : ℕ) (s : List ℕ) {r : Run} {xs st : List ℕ} → length s ≤ i → Went (records 1 (drop i s)) r xs st xs st r
-past-end i s {r} {xs} {st} h = rw (drop-of-length-le s {i = i} h, no-records 1) (none-went r xs st)
+pub past-end : (i : ℕ) (s : List ℕ) {r : Run} {xs st : List ℕ} → r .fill ≤ 16384 → length s ≤ i
+    → Went (records 1 (drop i s)) r xs st xs st r
+past-end i s {r} {xs} {st} fits h = rw (drop-of-length-le s {i = i} h, no-records 1) (none-went r xs st fits)
 
 module _ (i : ℕ) (s : List ℕ) {r q : Run} {xs st ys zs : List ℕ} where
   -- fewer than 13 bytes
@@ -143,9 +146,9 @@ module _ (i : ℕ) (s : List ℕ) {r q : Run} {xs st ys zs : List ℕ} where
 
 -- ---- The records of a buffer, a turn each
 
-pub no-turns : (s xs st : List ℕ) (r : Run) → Went (records 0 s) r xs st xs st r
+pub no-turns : (s xs st : List ℕ) (r : Run) → r .fill ≤ 16384 → Went (records 0 s) r xs st xs st r
 unfolding records
-no-turns s xs st r = none-went r xs st
+no-turns s xs st r fits = none-went r xs st fits
 
 pub more-went : (k : ℕ) (s : List ℕ) {r q p : Run} {xs st ys zs us vs : List ℕ} → Went (records k s) r xs st ys zs q
     → Went (records 1 (drop (13 * k) s)) q ys zs us vs p → Went (records (k + 1) s) r xs st us vs p
@@ -160,11 +163,11 @@ all-went k s long h w = rw (enough (length s) k s (omega arith) (omega arith)) w
 -- the flag for more to read is no part of it
 pub flagged : {cs : List Call} {r q : Run} {xs st ys zs : List ℕ} {b : Bool} → Went cs r xs st ys zs q
     → Went cs r xs st ys zs (record { state = q .state; records = q .records; frames = q .frames; fill = q .fill; more = b; «open» = q .«open» })
-flagged w = record { lines = w .lines; goes-on = w .goes-on; keeps = w .keeps; closed = w .closed }
+flagged w = record { lines = w .lines; goes-on = w .goes-on; keeps = w .keeps; fits = w .fits; closed = w .closed }
 
 -- nothing was read yet
-pub none-took : (r : Run) (xs st : List ℕ) → Took r xs st xs st r
-none-took r xs st = record { bytes = []; went = no-turns [] xs st r; whole = λ more. refl }
+pub none-took : (r : Run) (xs st : List ℕ) → r .fill ≤ 16384 → Took r xs st xs st r
+none-took r xs st fits = record { bytes = []; went = no-turns [] xs st r fits; whole = λ more. refl }
 
 -- a buffer
 pub buffer-took : (s : List ℕ) {r q : Run} {xs st ys zs : List ℕ} → Went (records (length s) s) r xs st ys zs q
@@ -186,6 +189,17 @@ then-took {r} {q} {p} {xs} {st} {ys} {zs} {us} {vs} more a b =
     }
 
 -- ---- The end
+
+-- what stands before the last line is as it was
+pub last-text : {at n k : ℕ} {text xs ys : List ℕ} → at ≤ length xs → Written k text at xs ys n → take n ys ≡ take at ys ++ text
+last-text {at} {n} {k} {text} {xs} {ys} fits w =
+    let whole : take n ys ≡ take at xs ++ text =
+    ap (λ (m : ℕ). take m ys) (w .place) ∙ ap (take (at + length text)) (w .bytes) ∙ take-put at text xs fits in
+    let front : take at ys ≡ take at xs =
+    sym (take-take at (at + length text) ys (omega arith))
+    ∙ ap (take at) (ap (take (at + length text)) (w .bytes) ∙ take-put at text xs fits)
+    ∙ take-at (take at xs) text at (length-take-le at xs fits) in
+    whole ∙ ap (λ (t : List ℕ). t ++ text) (sym front)
 
 pub ended : {r q : Run} {n : ℕ} {xs ys : List ℕ} → length xs ≡ 16384 → Roomy r q → Written 60 (endLine (q .records) (q .frames)) (q .fill) xs ys n
     → Ended r xs ys

@@ -13,7 +13,7 @@ use Rattle.wire.proofs.Puts.{take-put}
 use Rattle.program.specs.declared.Turn.{Turn}
 use Rattle.program.specs.Turns.{world, Begins}
 use Rattle.reader.specs.declared.Run.{Run}
-use Rattle.reader.specs.Reads.{Kept, kept, goes, stays, noted, allNoted, handed, fresh, Went, Took, Whole}
+use Rattle.reader.specs.Reads.{Kept, kept, goes, stays, noted, allNoted, handed, fresh, Took, Whole, Ended}
 
 -- ---- The text of lines, newest first, that are numbered on from n
 
@@ -117,5 +117,21 @@ whole-run {st} {xs} {ys} {us} {vs} {t} {q} zeros b a =
       lines = ls;
       log = log;
       keeps = keeps;
+      fits = a .went .fits;
       text = λ few less. whole-text (a .bytes) ls first log few less (kept q us) keeps;
     }
+
+-- ---- To the end
+
+-- all that is handed over: on the way, for room at the end, and at last
+pub all-handed : {xs ys : List ℕ} {r : Run} (w : Whole xs r) (e : Ended r xs ys) → length (w .lines) < 2 ^ 64
+    → frameCount (w .lines ++ (w .first ∷ [])) < 2 ^ 64
+    → handed (w .lines) (fresh (w .first)) ++ goes (take (r .fill) xs) ++ take (e .end) ys ≡ program (w .bytes)
+all-handed {xs} {ys} {r} w e few less =
+    let h = handed (w .lines) (fresh (w .first)) in
+    let t = take (r .fill) xs in
+    let l = endLine (r .records) (r .frames) in
+    ap (λ (u : List ℕ). h ++ goes t ++ u) (e .bytes)
+    ∙ sym (append-assoc (h ++ goes t) (stays t) l)
+    ∙ ap (λ (u : List ℕ). u ++ l) (append-assoc h (goes t) (stays t) ∙ ap (λ (u : List ℕ). h ++ u) (goes-stays t))
+    ∙ sym (w .text few less)

@@ -63,6 +63,7 @@ pub record Went (cs : List Call) (r : Run) (xs st ys zs : List ℕ) (q : Run) : 
   pub lines : List Line
   pub goes-on : (log : List Line) → run cs (world (r .state) st log) ≡ world (q .state) zs (lines ++ log)
   pub keeps : kept q ys ≡ allNoted lines (kept r xs)
+  pub fits : q .fill ≤ 16384
   pub closed : q .«open» ≡ true → r .«open» ≡ true
 
 -- some bytes that were read: their records; where there is more to read, the bytes are whole records
@@ -78,6 +79,7 @@ pub record Whole (ys : List ℕ) (q : Run) : Type 0 where
   pub lines : List Line
   pub log : logOf bytes ≡ lines ++ (first ∷ [])
   pub keeps : kept q ys ≡ allNoted lines (fresh first)
+  pub fits : q .fill ≤ 16384
   pub text : length lines < 2 ^ 64 → frameCount (lines ++ (first ∷ [])) < 2 ^ 64
       → program bytes ≡ handed lines (fresh first) ++ take (q .fill) ys ++ endLine (q .records) (q .frames)
 

@@ -1,6 +1,7 @@
--- `reader::close` meets its contract: the last line stands behind what stays. Assumes nothing.
+-- `reader::close` meets its contract: the last line stands behind what stays, and both are handed over. Assumes nothing.
+use native.Mathlib.Omega.{arith}
 use borrow.Author.Needs.{needs}
-use Rattle.reader.proofs.Going.{ended}
+use Rattle.reader.proofs.Going.{last-text, ended}
 use Rattle.reader.proofs.close.Statement.{statement}
 use Rattle.reader.proofs.close.Tie as tie
 
@@ -10,24 +11,20 @@ with-room-requires c κs = search needs
 end-line-requires : tie.Need-end-line-requires
 end-line-requires c κs = search needs
 
-flush-requires : tie.Need-flush-requires
-flush-requires c κs = search needs
+last-requires : tie.Need-last-requires
+last-requires c κs =
+    let l = c .before .before .before in
+    let room = l .before .before .with-room .ensures .room in
+    let long = l .before .before .before .before .before .pre .0 in
+    (search needs, last-text (omega (arith, room, long)) (l .end-line .ensures))
 
 same-length : tie.Need-same-length
 same-length c = search needs
 
 returns : tie.Need-returns
 returns c =
-    let l = c .before .before .before .before .before in
-    ended (l .before .before .before .before .before .pre) (l .before .before .with-room .ensures) (l .end-line .ensures)
-
-same-length-2 : tie.Need-same-length-2
-same-length-2 c = search needs
-
-returns-2 : tie.Need-returns-2
-returns-2 c =
-    let l = c .before .before .before in
-    ended (l .before .before .before .before .before .pre) (l .before .before .with-room .ensures) (l .end-line .ensures)
+    let l = c .before .before .before .before in
+    ended (l .before .before .before .before .before .pre .0) (l .before .before .with-room .ensures) (l .end-line .ensures)
 
 pub close-spec : {M : Type 1} → statement M
 close-spec =
@@ -35,8 +32,6 @@ close-spec =
     (tie.spec
     with-room-requires
     end-line-requires
-    flush-requires
+    last-requires
     same-length
-    returns
-    same-length-2
-    returns-2)
+    returns)

@@ -17,7 +17,9 @@ abbrev μ-loop : tie.MeasureT-loop
 μ-loop text₀ store₀ now₀ turns₀ text store now turns = turns
 
 loop-holds : tie.Need-loop-holds Inv-loop μ-loop
-loop-holds c = let a = c .before .before .args in (refl, refl, none-took (a .r) (now (a .text)) (now (a .store)))
+loop-holds c =
+    let s = c .before .before in
+    (refl, refl, none-took (s .args .r) (now (s .args .text)) (now (s .args .store)) (s .pre .1))
 
 buffer-requires : tie.Need-buffer-requires Inv-loop μ-loop
 buffer-requires c κs = search needs

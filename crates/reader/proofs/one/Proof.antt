@@ -30,7 +30,7 @@ returns c =
     let n = k .before .before .before in
     let room = n .before .with-room .ensures in
     let start = n .before .before .before .before .before .before in (
-      one-went (start .pre) room (n .wrapping-add-u64 .ensures) (c .wrapping-add-u642 .ensures) (k .call .ensures),
+      one-went (start .pre .0) room (n .wrapping-add-u64 .ensures) (c .wrapping-add-u642 .ensures) (k .call .ensures),
       ap (λ (q : Run). q .more) (room .same),
     )
 

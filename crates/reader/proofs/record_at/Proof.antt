@@ -7,7 +7,9 @@ use Rattle.reader.proofs.record_at.Statement.{statement}
 use Rattle.reader.proofs.record_at.Tie as tie
 
 returns : tie.Need-returns
-returns c = let a = c .before .before .before .before .args in (past-end (a .i) (now (a .s)) (c .if1 .taken), refl)
+returns c =
+    let s = c .before .before .before .before in
+    (past-end (s .args .i) (now (s .args .s)) (s .pre .1) (c .if1 .taken), refl)
 
 sub-if2 : tie.Need-sub-if2
 sub-if2 c = search needs

@@ -18,7 +18,7 @@ abbrev μ-loop : tie.MeasureT-loop
 μ-loop s text₀ store₀ now₀ k₀ text store now k = 1024 - k
 
 loop-holds : tie.Need-loop-holds Inv-loop μ-loop
-loop-holds c = (search needs, refl, refl, no-turns _ _ _ _, refl)
+loop-holds c = (search needs, refl, refl, no-turns _ _ _ _ (c .before .before .before .pre .1), refl)
 
 mul-record-at : tie.Need-mul-record-at Inv-loop μ-loop
 mul-record-at c = search needs
@@ -54,7 +54,7 @@ returns : tie.Need-returns Inv-loop μ-loop
 returns c =
     let l = c .before .loop in
     let s = c .before .before .before .before .before in
-    (all-went (l .k) (now (s .args .s)) (s .pre .1) (c .loop-test .left) (l .inv .3), l .inv .4)
+    (all-went (l .k) (now (s .args .s)) (s .pre .2) (c .loop-test .left) (l .inv .3), l .inv .4)
 
 pub records-spec : {M : Type 1} → statement M
 records-spec =

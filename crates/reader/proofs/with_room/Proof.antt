@@ -1,27 +1,24 @@
--- `reader::with_room` meets its contract: full, with the output open or not, and with room. Assumes nothing.
-use mathlib.Core.Path.{_≡_, refl, ap}
-use mathlib.Core.Bool.{Bool, cond}
-use Prim.Native.Nat.{ℕ}
-use native.Mathlib.Omega.{arith}
-use borrow.Author.Tests.{lt-ltb, le-ltb}
+-- `reader::with_room` meets its contract, with the text handed over and without. Assumes nothing.
+use mathlib.Core.Path.{sym}
+use lib.Seq.{length-take-le}
+use denote.Ref.{now}
 use borrow.Author.Needs.{needs}
-use Rattle.reader.specs.declared.Run.{Run}
-use Rattle.reader.specs.Reads.{Roomy}
 use Rattle.reader.proofs.Going.{emptied, untouched}
 use Rattle.reader.proofs.with_room.Statement.{statement}
 use Rattle.reader.proofs.with_room.Tie as tie
 
-flush-requires : tie.Need-flush-requires
-flush-requires c κs = search needs
+slice-aggregate-hand-over : tie.Need-slice-aggregate-hand-over
+slice-aggregate-hand-over c = let s = c .before .before .before in sym (length-take-le (s .args .r .fill) (now (s .args .text)) (s .pre))
+
+hand-over-requires : tie.Need-hand-over-requires
+hand-over-requires c κs = search needs
 
 returns : tie.Need-returns
-returns c = emptied (c .before .before .if1 .taken) (λ h. c .before .if2 .taken)
+returns c = emptied (c .before .before .if1 .taken) (c .hand-over .ensures)
 
 returns-2 : tie.Need-returns-2
-returns-2 c = emptied (c .before .if1 .taken) (λ h. h)
-
-returns-3 : tie.Need-returns-3
-returns-3 c = untouched (c .if1 .left)
+returns-2 c = untouched (c .if1 .left)
 
 pub with-room-spec : {M : Type 1} → statement M
-with-room-spec = tie.close (tie.spec flush-requires returns returns-2 returns-3)
+with-room-spec =
+    tie.close (tie.spec slice-aggregate-hand-over hand-over-requires returns returns-2)
