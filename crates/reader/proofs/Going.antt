@@ -17,7 +17,7 @@ use Rattle.text.specs.Written.{Written}
 use Rattle.program.specs.declared.Turn.{Turn}
 use Rattle.program.specs.Turns.{calling, world, Turned}
 use Rattle.reader.specs.declared.Run.{Run}
-use Rattle.reader.specs.Reads.{Kept, kept, stays, noted, allNoted, Roomy, Went, Took, Ended}
+use Rattle.reader.specs.Reads.{Kept, kept, goes, stays, noted, allNoted, Roomy, Went, Took, Ended}
 use Rattle.reader.proofs.Cut.{no-records, first-record, one-more, enough, joined}
 
 -- ---- One after the other
@@ -58,6 +58,11 @@ then-went {cs} {ds} {r} {q} {p} {xs} {st} {ys} {zs} {us} {vs} w v =
     }
 
 -- ---- Room
+
+-- text that lacks room goes, all of it
+pub all-goes : (f : ℕ) (xs : List ℕ) → 16216 < f → f ≤ length xs → take f xs ≡ goes (take f xs)
+unfolding goes
+all-goes f xs h fits = rw (lt-ltb 16216 (length (take f xs)) (omega (arith, length-take-le f xs fits))) refl
 
 -- text handed over, and the output perhaps found closed
 pub emptied : {r : Run} {b : Bool} → 16216 < r .fill → (b ≡ true → r .«open» ≡ true)

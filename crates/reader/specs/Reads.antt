@@ -58,7 +58,8 @@ pub record Roomy (r q : Run) : Type 0 where
   pub room : q .fill + 168 ≤ 16384
   pub closed : q .«open» ≡ true → r .«open» ≡ true
 
--- some calls: a run goes on by their lines, whatever its log, and what is kept is what these lines leave
+-- some calls: a run goes on by their lines, whatever its log, and what is kept is what these lines leave; so what is handed over on the way is
+-- `handed lines (kept r xs)`
 pub record Went (cs : List Call) (r : Run) (xs st ys zs : List ℕ) (q : Run) : Type 0 where
   pub lines : List Line
   pub goes-on : (log : List Line) → run cs (world (r .state) st log) ≡ world (q .state) zs (lines ++ log)

@@ -14,7 +14,7 @@ ghost use lib.ListN.{length, take, drop};
 ghost use Rattle.model.specs.Step.{zeroStore};
 ghost use Rattle.model.specs.Program as Text;
 ghost use Rattle.program.specs.Turns.{calling};
-ghost use Rattle.reader.specs.Reads.{Roomy, Went, Took, Whole, Ended};
+ghost use Rattle.reader.specs.Reads.{goes, Roomy, Went, Took, Whole, Ended};
 
 // What is kept from record to record: the node, the counts, how much of the text is waiting, whether there is more to read, and whether the output
 // still takes text.
@@ -27,10 +27,10 @@ struct Run {
     open: bool,
 }
 
-// Standard output takes all the text that waits, where it lacks room and the output was not found closed; answers whether it did.
-// The text itself is there for what is required: nothing else is handed over.
+// Standard output takes all the text that waits, once there is little room left, and not where it was found closed; answers whether it did.
+// `text` is there for what is required: that nothing else is handed over.
 fn hand_over(r: Run, text: &[u8], out: &[u8]) -> bool
-    requires { ⌜ (16216 < r .fill) × (now out ≡ take (r .fill) (now text)) ⌝ }
+    requires { ⌜ (16216 < r .fill) × (now out ≡ goes (take (r .fill) (now text))) ⌝ }
     ensures { λ b. ⌜ (b ≡ true → r .«open» ≡ true) ⌝ }
 {
     r.open && io::write_all(STDOUT_FILENO, out)

@@ -3,7 +3,7 @@ use mathlib.Core.Path.{sym}
 use lib.Seq.{length-take-le}
 use denote.Ref.{now}
 use borrow.Author.Needs.{needs}
-use Rattle.reader.proofs.Going.{emptied, untouched}
+use Rattle.reader.proofs.Going.{all-goes, emptied, untouched}
 use Rattle.reader.proofs.with_room.Statement.{statement}
 use Rattle.reader.proofs.with_room.Tie as tie
 
@@ -11,7 +11,9 @@ slice-aggregate-hand-over : tie.Need-slice-aggregate-hand-over
 slice-aggregate-hand-over c = let s = c .before .before .before in sym (length-take-le (s .args .r .fill) (now (s .args .text)) (s .pre))
 
 hand-over-requires : tie.Need-hand-over-requires
-hand-over-requires c κs = search needs
+hand-over-requires c κs =
+    let s = c .before .before .before in
+    (c .before .if1 .taken, all-goes (s .args .r .fill) (now (s .args .text)) (c .before .if1 .taken) (s .pre))
 
 returns : tie.Need-returns
 returns c = emptied (c .before .before .if1 .taken) (c .hand-over .ensures)
