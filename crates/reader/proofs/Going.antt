@@ -9,7 +9,6 @@ use borrow.Author.Tests.{ltb-true, ltb-false, lt-ltb, le-ltb, eqb-true}
 use lib.Dec.{ltb, eqb}
 use lib.ListN.{length, take, drop, length-take, length-drop, length-append, drop-of-length-le}
 use lib.Seq.{take-all, take-take, take-at, length-take-le}
-use Rattle.model.specs.declared.State.{State}
 use Rattle.model.specs.Run.{Call, Line, World, sentIn, run, continued}
 use Rattle.model.specs.Program.{lineText, endLine, records}
 use Rattle.wire.proofs.Puts.{take-put}
@@ -69,11 +68,7 @@ pub emptied : {r : Run} {b : Bool} → 16216 < r .fill → (b ≡ true → r .«
     → Roomy r (record { state = r .state; records = r .records; frames = r .frames; fill = 0; more = r .more; «open» = b })
 emptied {r} {b} h closed =
     let full = lt-ltb 16216 (r .fill) h in
-    record {
-      same = rw full refl;
-      room = omega arith;
-      closed = closed;
-    }
+    record { same = rw full refl; room = omega arith; closed = closed }
 
 -- room as it is
 pub untouched : {r : Run} → r .fill ≤ 16216 → Roomy r r
@@ -84,7 +79,7 @@ untouched {r} h =
 -- ---- One record
 
 -- what stays, in the program's numbers
-pub stays-take : (f : ℕ) (xs : List ℕ) → length xs ≡ 16384 → take (cond (ltb 16216 f) 0 f) xs ≡ stays (take f xs)
+stays-take : (f : ℕ) (xs : List ℕ) → length xs ≡ 16384 → take (cond (ltb 16216 f) 0 f) xs ≡ stays (take f xs)
 unfolding stays
 stays-take f xs long = go (ltb 16216 f) refl
   where
@@ -96,14 +91,17 @@ stays-take f xs long = go (ltb 16216 f) refl
         let h : f ≤ 16216 = ltb-false 16216 f e in
         rw (le-ltb 16216 (length (take f xs)) (omega (arith, length-take f xs))) refl
 
--- room for a text, and the text
+-- a text up to the end of what was written
+pub text-written : {at n k : ℕ} {text xs ys : List ℕ} → at ≤ length xs → Written k text at xs ys n → take n ys ≡ take at xs ++ text
+text-written {at} {n} {k} {text} {xs} {ys} fits w =
+    ap (λ (m : ℕ). take m ys) (w .place) ∙ ap (take (at + length text)) (w .bytes) ∙ take-put at text xs fits
+
+-- the same with room made first
 pub roomy-text : {r q : Run} {k n : ℕ} {text xs ys : List ℕ} → length xs ≡ 16384 → Roomy r q → Written k text (q .fill) xs ys n
     → take n ys ≡ stays (take (r .fill) xs) ++ text
 roomy-text {r} {q} {k} {n} {text} {xs} {ys} long h w =
     let fits : q .fill ≤ length xs = omega (arith, h .room) in
-    ap (λ (m : ℕ). take m ys) (w .place)
-    ∙ ap (take (q .fill + length text)) (w .bytes)
-    ∙ take-put (q .fill) text xs fits
+    text-written fits w
     ∙ ap (λ (m : ℕ). take m xs ++ text) (ap (λ (p : Run). p .fill) (h .same))
     ∙ ap (λ (t : List ℕ). t ++ text) (stays-take (r .fill) xs long)
 
@@ -113,18 +111,25 @@ pub one-went : {e xs st ys zs : List ℕ} {r q : Run} {t : Turn} {n f : ℕ} →
     → Went (calling e ∷ []) r xs st ys zs (record { state = t .state; records = n; frames = f; fill = t .at; more = q .more; «open» = q .«open» })
 unfolding allNoted noted
 one-went {e} {xs} {st} {ys} {zs} {r} {q} {t} {n} {f} long h c d u =
-    let number : n ≡ (r .records + 1) % 2 ^ 64 = c ∙ ap (λ (p : Run). (p .records + 1) % 2 ^ 64) (h .same) in
-    let count : f ≡ (r .frames + length (sentIn (u .line))) % 2 ^ 64 =
-    d ∙ ap (λ (p : Run). (p .frames + t .frames) % 2 ^ 64) (h .same) ∙ ap (λ (m : ℕ). (r .frames + m) % 2 ^ 64) (u .frames) in
-    let text : take (t .at) ys ≡ stays (take (r .fill) xs) ++ lineText ((r .records + 1) % 2 ^ 64) (u .line) =
-    roomy-text long h (u .text) ∙ ap (λ (m : ℕ). stays (take (r .fill) xs) ++ lineText m (u .line)) number in
     record {
       lines = u .line ∷ [];
-      goes-on = λ log. run-one (calling e) (world (r .state) st log) ∙ ap (λ (p : Run). continued (calling e) (world (p .state) st log)) (sym (h .same)) ∙ u .goes-on log;
+      goes-on = λ log.
+          run-one (calling e) (world (r .state) st log)
+          ∙ ap (λ (p : Run). continued (calling e) (world (p .state) st log)) (sym (h .same))
+          ∙ u .goes-on log;
       keeps = λ i. record { records = number i; frames = count i; waits = text i };
       fits = omega (arith, u .text .place, u .text .short, h .room);
       closed = h .closed;
     }
+  where
+    number : n ≡ (r .records + 1) % 2 ^ 64
+    number = c ∙ ap (λ (p : Run). (p .records + 1) % 2 ^ 64) (h .same)
+
+    count : f ≡ (r .frames + length (sentIn (u .line))) % 2 ^ 64
+    count = d ∙ ap (λ (p : Run). (p .frames + t .frames) % 2 ^ 64) (h .same) ∙ ap (λ (m : ℕ). (r .frames + m) % 2 ^ 64) (u .frames)
+
+    text : take (t .at) ys ≡ stays (take (r .fill) xs) ++ lineText ((r .records + 1) % 2 ^ 64) (u .line)
+    text = roomy-text long h (u .text) ∙ ap (λ (m : ℕ). stays (take (r .fill) xs) ++ lineText m (u .line)) number
 
 -- ---- The record at a place, by its bytes as the program cuts them
 
@@ -139,8 +144,7 @@ module _ (i : ℕ) (s : List ℕ) {r q : Run} {xs st ys zs : List ℕ} where
       → Went (records 1 (drop i s)) r xs st ys zs q
   short-record h k w =
       let n = length-drop i s in
-      let same : take (length s - i) (drop i s) ≡ take 13 (drop i s) = take-all (length s - i) (drop i s) (omega arith) ∙ sym (take-all 13 (drop i s) (omega arith)) in
-      rw (first-record (drop i s) (omega arith), ← same) w
+      rw (first-record (drop i s) (omega arith), take-all 13 (drop i s) (omega arith), ← take-all (length s - i) (drop i s) (omega arith)) w
 
   -- 13 bytes
   pub whole-record : i < length s → Went (calling (take (i + 13 - i) (drop i s)) ∷ []) r xs st ys zs q → Went (records 1 (drop i s)) r xs st ys zs q
@@ -197,14 +201,13 @@ then-took {r} {q} {p} {xs} {st} {ys} {zs} {us} {vs} more a b =
 
 -- what stands before the last line is as it was
 pub last-text : {at n k : ℕ} {text xs ys : List ℕ} → at ≤ length xs → Written k text at xs ys n → take n ys ≡ take at ys ++ text
-last-text {at} {n} {k} {text} {xs} {ys} fits w =
-    let whole : take n ys ≡ take at xs ++ text =
-    ap (λ (m : ℕ). take m ys) (w .place) ∙ ap (take (at + length text)) (w .bytes) ∙ take-put at text xs fits in
-    let front : take at ys ≡ take at xs =
-    sym (take-take at (at + length text) ys (omega arith))
-    ∙ ap (take at) (ap (take (at + length text)) (w .bytes) ∙ take-put at text xs fits)
-    ∙ take-at (take at xs) text at (length-take-le at xs fits) in
-    whole ∙ ap (λ (t : List ℕ). t ++ text) (sym front)
+last-text {at} {n} {k} {text} {xs} {ys} fits w = text-written fits w ∙ ap (λ (t : List ℕ). t ++ text) (sym front)
+  where
+    front : take at ys ≡ take at xs
+    front =
+        sym (take-take at n ys (omega (arith, w .place)))
+        ∙ ap (take at) (text-written fits w)
+        ∙ take-at (take at xs) text at (length-take-le at xs fits)
 
 pub ended : {r q : Run} {n : ℕ} {xs ys : List ℕ} → length xs ≡ 16384 → Roomy r q → Written 60 (endLine (q .records) (q .frames)) (q .fill) xs ys n
     → Ended r xs ys

@@ -6,14 +6,14 @@ use Prim.Native.Nat.{ℕ, suc, _+_, _-_, _%_, _^_, _≤_, _<_}
 use native.Mathlib.Omega.{arith}
 use lib.Dec.{ltb}
 use lib.ListN.{length, take, length-append}
-use Rattle.model.specs.Run.{Call, Line, World, sentIn, run}
+use Rattle.model.specs.Run.{Line, World, sentIn, begun, run}
 use Rattle.model.specs.Step.{outputSize, zeroStore}
 use Rattle.model.specs.Program.{lineText, logText, frameCount, endLine, zeroIdentity, records, logOf, program}
-use Rattle.wire.proofs.Puts.{take-put}
 use Rattle.program.specs.declared.Turn.{Turn}
-use Rattle.program.specs.Turns.{world, Begins}
+use Rattle.program.specs.Turns.{Begins}
 use Rattle.reader.specs.declared.Run.{Run}
-use Rattle.reader.specs.Reads.{Kept, kept, goes, stays, noted, allNoted, handed, fresh, Took, Whole, Ended}
+use Rattle.reader.specs.Reads.{Kept, kept, goes, stays, noted, allNoted, handed, fresh, Took, Whole, Ended, Done}
+use Rattle.reader.proofs.Going.{text-written}
 
 -- ---- The text of lines, newest first, that are numbered on from n
 
@@ -74,64 +74,79 @@ unfolding frameCount
 last-frames [] first = omega arith
 last-frames (l ∷ ls) first = let e : frameCount (ls ++ (first ∷ [])) ≡ length (sentIn first) + frameCount ls = last-frames ls first in omega arith
 
--- so it is what the reader hands over
-pub whole-text : (bytes : List ℕ) (ls : List Line) (first : Line) → logOf bytes ≡ ls ++ (first ∷ []) → length ls < 2 ^ 64
-    → frameCount (ls ++ (first ∷ [])) < 2 ^ 64 → (k : Kept) → k ≡ allNoted ls (fresh first)
-    → program bytes ≡ handed ls (fresh first) ++ k .waits ++ endLine (k .records) (k .frames)
-unfolding program
-whole-text bytes ls first log few less k keeps =
-    let whole = ls ++ (first ∷ []) in
-    let f : frameCount (ls ++ (first ∷ [])) ≡ length (sentIn first) + frameCount ls = last-frames ls first in
-    let records : length (ls ++ (first ∷ [])) - 1 ≡ k .records =
-    omega (arith, length-append ls (first ∷ []), ap (λ (j : Kept). j .records) keeps, counted ls (fresh first) (omega arith)) in
-    let frames : frameCount (ls ++ (first ∷ [])) ≡ k .frames =
-    omega (arith, ap (λ (j : Kept). j .frames) keeps, framed ls (fresh first) (omega arith)) in
-    ap (λ (l : List Line). logText l (endLine (length l - 1) (frameCount l))) log
-    ∙ log-text ls first (endLine (length whole - 1) (frameCount whole))
-    ∙ ap (λ (u : List ℕ). u ++ endLine (length whole - 1) (frameCount whole))
-    (sym (all-text ls (fresh first) (omega arith)) ∙ ap (λ (j : Kept). handed ls (fresh first) ++ j .waits) (sym keeps))
-    ∙ ap₂ (λ (m n : ℕ). handed ls (fresh first) ++ k .waits ++ endLine m n) records frames
+-- so it is what the reader hands over, what waits, and the last line
+module _ (ls : List Line) (first : Line) (few : length ls < 2 ^ 64) (less : frameCount (ls ++ (first ∷ [])) < 2 ^ 64) where
+  all-records : length (ls ++ (first ∷ [])) - 1 ≡ allNoted ls (fresh first) .records
+  all-records = omega (arith, length-append ls (first ∷ []), counted ls (fresh first) (omega arith))
+
+  all-frames : frameCount (ls ++ (first ∷ [])) ≡ allNoted ls (fresh first) .frames
+  all-frames = let f = last-frames ls first in omega (arith, framed ls (fresh first) (omega arith))
+
+  whole-text : (bytes : List ℕ) → logOf bytes ≡ ls ++ (first ∷ []) → (k : Kept) → k ≡ allNoted ls (fresh first)
+      → program bytes ≡ handed ls (fresh first) ++ k .waits ++ endLine (k .records) (k .frames)
+  unfolding program
+  whole-text bytes log k keeps =
+      let whole = ls ++ (first ∷ []) in
+      ap (λ (l : List Line). logText l (endLine (length l - 1) (frameCount l))) log
+      ∙ log-text ls first (endLine (length whole - 1) (frameCount whole))
+      ∙ ap₂ (λ (m n : ℕ). (lineText 0 first ++ textFrom 0 ls) ++ endLine m n) all-records all-frames
+      ∙ ap (λ (u : List ℕ). u ++ endLine (allNoted ls (fresh first) .records) (allNoted ls (fresh first) .frames))
+      (sym (all-text ls (fresh first) (omega arith)))
+      ∙ ap (λ (j : Kept). handed ls (fresh first) ++ j .waits ++ endLine (j .records) (j .frames)) (sym keeps)
 
 -- ---- From the power-on
+
+-- as the program starts: the power-on's text waits
+abbrev started : Turn → Run
+started t = record { state = t .state; records = 0; frames = t .frames; fill = t .at; more = true; «open» = true }
+
+started-kept : {st xs ys : List ℕ} {t : Turn} (b : Begins zeroIdentity st xs ys t) → kept (started t) ys ≡ fresh (b .line)
+started-kept {st} {xs} {ys} {t} b = λ i. record { records = 0; frames = b .frames i; waits = text i }
+  where
+    text : take (t .at) ys ≡ lineText 0 (b .line)
+    text = text-written (omega arith) (b .text)
+
+-- the log is the definition's
+whole-log : {st xs ys us vs : List ℕ} {t : Turn} {q : Run} → st ≡ zeroStore → (b : Begins zeroIdentity st xs ys t)
+    → (a : Took (started t) ys st us vs q) → logOf (a .bytes) ≡ a .went .lines ++ (b .line ∷ [])
+unfolding logOf
+whole-log {st} {xs} {ys} zeros b a =
+    let cs = records (length (a .bytes)) (a .bytes) in
+    ap (λ (s : List ℕ). run cs (begun zeroIdentity outputSize s) .log) (sym zeros)
+    ∙ ap (λ (w : World). run cs w .log) (b .starts)
+    ∙ ap (λ (w : World). w .log) (a .went .goes-on (b .line ∷ []))
 
 pub whole-run : {st xs ys us vs : List ℕ} {t : Turn} {q : Run} → st ≡ zeroStore → Begins zeroIdentity st xs ys t
     → Took (record { state = t .state; records = 0; frames = t .frames; fill = t .at; more = true; «open» = true }) ys st us vs q
     → Whole us q
-unfolding logOf
-whole-run {st} {xs} {ys} {us} {vs} {t} {q} zeros b a =
-    let first = b .line in
-    let ls = a .went .lines in
-    let cs = records (length (a .bytes)) (a .bytes) in
-    let text : take (t .at) ys ≡ lineText 0 first =
-    ap (λ (m : ℕ). take m ys) (b .text .place) ∙ ap (take (0 + length (lineText 0 first))) (b .text .bytes) ∙ take-put 0 (lineText 0 first) xs (omega arith) in
-    let start : record { records = 0; frames = t .frames; waits = take (t .at) ys } ≡ fresh first =
-    λ i. record { records = 0; frames = b .frames i; waits = text i } in
-    let log : logOf (a .bytes) ≡ ls ++ (first ∷ []) =
-    ap (λ (s : List ℕ). run cs (Rattle.model.specs.Run.begun zeroIdentity outputSize s) .log) (sym zeros)
-    ∙ ap (λ (w : World). run cs w .log) (b .starts)
-    ∙ ap (λ (w : World). w .log) (a .went .goes-on (first ∷ [])) in
-    let keeps : kept q us ≡ allNoted ls (fresh first) = a .went .keeps ∙ ap (allNoted ls) start in
+whole-run zeros b a =
     record {
       bytes = a .bytes;
-      first = first;
-      lines = ls;
-      log = log;
-      keeps = keeps;
+      first = b .line;
+      lines = a .went .lines;
+      log = whole-log zeros b a;
+      keeps = a .went .keeps ∙ ap (allNoted (a .went .lines)) (started-kept b);
       fits = a .went .fits;
-      text = λ few less. whole-text (a .bytes) ls first log few less (kept q us) keeps;
     }
 
 -- ---- To the end
 
 -- all that is handed over: on the way, for room at the end, and at last
-pub all-handed : {xs ys : List ℕ} {r : Run} (w : Whole xs r) (e : Ended r xs ys) → length (w .lines) < 2 ^ 64
-    → frameCount (w .lines ++ (w .first ∷ [])) < 2 ^ 64
-    → handed (w .lines) (fresh (w .first)) ++ goes (take (r .fill) xs) ++ take (e .end) ys ≡ program (w .bytes)
-all-handed {xs} {ys} {r} w e few less =
-    let h = handed (w .lines) (fresh (w .first)) in
-    let t = take (r .fill) xs in
-    let l = endLine (r .records) (r .frames) in
-    ap (λ (u : List ℕ). h ++ goes t ++ u) (e .bytes)
-    ∙ sym (append-assoc (h ++ goes t) (stays t) l)
-    ∙ ap (λ (u : List ℕ). u ++ l) (append-assoc h (goes t) (stays t) ∙ ap (λ (u : List ℕ). h ++ u) (goes-stays t))
-    ∙ sym (w .text few less)
+pub all-handed : {xs ys : List ℕ} {r : Run} → Whole xs r → Ended r xs ys → Done ys
+all-handed {xs} {ys} {r} w e =
+    record {
+      bytes = w .bytes;
+      first = w .first;
+      lines = w .lines;
+      log = w .log;
+      end = e .end;
+      text = λ few less.
+          let h = handed (w .lines) (fresh (w .first)) in
+          let t = take (r .fill) xs in
+          let l = endLine (r .records) (r .frames) in
+          ap (λ (k : Kept). h ++ goes (k .waits) ++ take (e .end) ys) (sym (w .keeps))
+          ∙ ap (λ (u : List ℕ). h ++ goes t ++ u) (e .bytes)
+          ∙ sym (append-assoc (h ++ goes t) (stays t) l)
+          ∙ ap (λ (u : List ℕ). u ++ l) (append-assoc h (goes t) (stays t) ∙ ap (λ (u : List ℕ). h ++ u) (goes-stays t))
+          ∙ sym (whole-text (w .lines) (w .first) few less (w .bytes) (w .log) (kept r xs) (w .keeps));
+    }

@@ -73,7 +73,7 @@ pub record Took (r : Run) (xs st ys zs : List ℕ) (q : Run) : Type 0 where
   pub went : Went (records (length bytes) bytes) r xs st ys zs q
   pub whole : q .more ≡ true → length bytes % 13 ≡ 0
 
--- the power-on and all that was read: what was handed over, what waits and the last line are the text of the definition, where 64 bits hold the counts
+-- the power-on and all that was read: the log is the definition's, and what is kept is what its lines leave
 pub record Whole (ys : List ℕ) (q : Run) : Type 0 where
   pub bytes : List ℕ
   pub first : Line
@@ -81,10 +81,18 @@ pub record Whole (ys : List ℕ) (q : Run) : Type 0 where
   pub log : logOf bytes ≡ lines ++ (first ∷ [])
   pub keeps : kept q ys ≡ allNoted lines (fresh first)
   pub fits : q .fill ≤ 16384
-  pub text : length lines < 2 ^ 64 → frameCount (lines ++ (first ∷ [])) < 2 ^ 64
-      → program bytes ≡ handed lines (fresh first) ++ take (q .fill) ys ++ endLine (q .records) (q .frames)
 
 -- the end: what is handed over at last
 pub record Ended (r : Run) (xs ys : List ℕ) : Type 0 where
   pub end : ℕ
   pub bytes : take end ys ≡ stays (take (r .fill) xs) ++ endLine (r .records) (r .frames)
+
+-- the program: what is handed over on the way, then for room at the end, and then at last is the text of the definition, where 64 bits hold the counts
+pub record Done (ys : List ℕ) : Type 0 where
+  pub bytes : List ℕ
+  pub first : Line
+  pub lines : List Line
+  pub log : logOf bytes ≡ lines ++ (first ∷ [])
+  pub end : ℕ
+  pub text : length lines < 2 ^ 64 → frameCount (lines ++ (first ∷ [])) < 2 ^ 64
+      → handed lines (fresh first) ++ goes (allNoted lines (fresh first) .waits) ++ take end ys ≡ program bytes

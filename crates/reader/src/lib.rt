@@ -14,7 +14,7 @@ ghost use lib.ListN.{length, take, drop};
 ghost use Rattle.model.specs.Step.{zeroStore};
 ghost use Rattle.model.specs.Program as Text;
 ghost use Rattle.program.specs.Turns.{calling};
-ghost use Rattle.reader.specs.Reads.{goes, Roomy, Went, Took, Whole, Ended};
+ghost use Rattle.reader.specs.Reads.{goes, Roomy, Went, Took, Whole, Ended, Done};
 
 // What is kept from record to record: the node, the counts, how much of the text is waiting, whether there is more to read, and whether the output
 // still takes text.
@@ -179,10 +179,18 @@ fn whole_run(text: &mut [u8], store: &mut [u8]) -> Run
     input(start, text, store)
 }
 
-// The event program: the power-on, the records, the last line.
+// The whole run, and then the last line.
+fn to_end(text: &mut [u8], store: &mut [u8])
+    requires { ⌜ (length (now text) ≡ 16384) × (now store ≡ zeroStore) ⌝ }
+    ensures { λ _. ⌜ Done (now (text .exit)) ⌝ }
+{
+    let end = whole_run(text, store);
+    close(end, text);
+}
+
+// The event program: a store of zeros, the power-on, the records, the last line.
 pub fn event_program() {
     let mut text = [0u8; 16384];
     let mut store = [0u8; 64];
-    let end = whole_run(&mut text, &mut store);
-    close(end, &mut text);
+    to_end(&mut text, &mut store);
 }
