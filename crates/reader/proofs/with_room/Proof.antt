@@ -2,7 +2,6 @@
 use mathlib.Core.Path.{sym}
 use lib.Seq.{length-take-le}
 use denote.Ref.{now}
-use borrow.Author.Needs.{needs}
 use Rattle.reader.proofs.Going.{all-goes, emptied, untouched}
 use Rattle.reader.proofs.with_room.Statement.{statement}
 use Rattle.reader.proofs.with_room.Tie as tie
