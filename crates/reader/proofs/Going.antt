@@ -1,7 +1,7 @@
 -- What a record leaves, as the functions of the reader have it, and records one after the other. Assumes nothing.
-use mathlib.Core.Path.{_≡_, refl, sym, ap, _∙_}
+use mathlib.Core.Path.{_≡_, refl, sym, ap, ap₂, _∙_}
 use mathlib.Core.Bool.{Bool, true, false, cond}
-use mathlib.Core.List.{List, [], _∷_, _++_, append-assoc}
+use mathlib.Core.List.{List, [], _∷_, _++_, append-assoc, append-nil}
 use Prim.Native.Nat.{ℕ, _+_, _-_, _*_, _%_, _^_, _≤_, _<_}
 use native.Mathlib.Omega.{arith}
 use native.Mathlib.Numerals.{add-one}
@@ -16,7 +16,7 @@ use Rattle.text.specs.Written.{Written}
 use Rattle.program.specs.declared.Turn.{Turn}
 use Rattle.program.specs.Turns.{calling, world, Turned}
 use Rattle.reader.specs.declared.Run.{Run}
-use Rattle.reader.specs.Reads.{Kept, kept, goes, stays, noted, allNoted, Roomy, Went, Took, Ended}
+use Rattle.reader.specs.Reads.{Kept, kept, goes, stays, noted, allNoted, handed, Roomy, Went, Took, Ended}
 use Rattle.reader.proofs.Cut.{no-records, first-record, one-more, enough, joined}
 
 -- ---- One after the other
@@ -35,10 +35,22 @@ unfolding allNoted
 noted-append [] olds k = refl
 noted-append (l ∷ news) olds k = ap (noted l) (noted-append news olds k)
 
+handed-append : (news olds : List Line) (k : Kept) → handed (news ++ olds) k ≡ handed olds k ++ handed news (allNoted olds k)
+unfolding handed
+handed-append [] olds k = sym (append-nil (handed olds k))
+handed-append (l ∷ news) olds k =
+    ap₂ (λ (t : List ℕ) (j : Kept). t ++ goes (j .waits)) (handed-append news olds k) (noted-append news olds k)
+    ∙ append-assoc (handed olds k) (handed news (allNoted olds k)) (goes (allNoted news (allNoted olds k) .waits))
+
+-- where two texts are none, each is none
+neither : (a b : List ℕ) → a ++ b ≡ [] → (a ≡ []) × (b ≡ [])
+neither [] b e = (refl, e)
+neither (x ∷ a) b e = let z : length (x ∷ (a ++ b)) ≡ 0 = ap length e in absurd (omega arith)
+
 -- no records
 pub none-went : (r : Run) (xs st : List ℕ) → r .fill ≤ 16384 → Went [] r xs st xs st r
 unfolding run allNoted
-none-went r xs st fits = record { lines = []; goes-on = λ log. refl; keeps = refl; fits = fits; closed = λ h. h }
+none-went r xs st fits = record { lines = []; goes-on = λ log. refl; keeps = refl; fits = fits; closed = λ h. h; untried = λ h. refl }
 
 -- some, and then some more
 pub then-went : {cs ds : List Call} {r q p : Run} {xs st ys zs us vs : List ℕ} → Went cs r xs st ys zs q → Went ds q ys zs us vs p
@@ -54,6 +66,9 @@ then-went {cs} {ds} {r} {q} {p} {xs} {st} {ys} {zs} {us} {vs} w v =
       keeps = v .keeps ∙ ap (allNoted (v .lines)) (w .keeps) ∙ sym (noted-append (v .lines) (w .lines) (kept r xs));
       fits = v .fits;
       closed = λ h. w .closed (v .closed h);
+      untried = λ h.
+          let n = neither _ _ (sym (handed-append (v .lines) (w .lines) (kept r xs)) ∙ h) in
+          v .untried (ap (handed (v .lines)) (w .keeps) ∙ n .1) ∙ w .untried (n .0);
     }
 
 -- ---- Room
@@ -68,13 +83,13 @@ pub emptied : {r : Run} {b : Bool} → 16216 < r .fill → (b ≡ true → r .«
     → Roomy r (record { state = r .state; records = r .records; frames = r .frames; fill = 0; more = r .more; «open» = b })
 emptied {r} {b} h closed =
     let full = lt-ltb 16216 (r .fill) h in
-    record { same = rw full refl; room = omega arith; closed = closed }
+    record { same = rw full refl; room = omega arith; closed = closed; untried = λ k. absurd (omega arith) }
 
 -- room as it is
 pub untouched : {r : Run} → r .fill ≤ 16216 → Roomy r r
 untouched {r} h =
     let free = le-ltb 16216 (r .fill) h in
-    record { same = rw free refl; room = omega arith; closed = λ o. o }
+    record { same = rw free refl; room = omega arith; closed = λ o. o; untried = λ k. refl }
 
 -- ---- One record
 
@@ -90,6 +105,18 @@ stays-take f xs long = go (ltb 16216 f) refl
     go false e =
         let h : f ≤ 16216 = ltb-false 16216 f e in
         rw (le-ltb 16216 (length (take f xs)) (omega (arith, length-take f xs))) refl
+
+-- where nothing goes, there was room
+none-goes : (f : ℕ) (xs : List ℕ) → length xs ≡ 16384 → goes (take f xs) ≡ [] → f ≤ 16216
+unfolding goes
+none-goes f xs long none = go (ltb 16216 f) refl
+  where
+    go : (b : Bool) → ltb 16216 f ≡ b → f ≤ 16216
+    go true e =
+        let h : 16216 < f = ltb-true 16216 f e in
+        let full = lt-ltb 16216 (length (take f xs)) (omega (arith, length-take f xs)) in
+        absurd (omega (arith, length-take f xs, ap length (rw full at none)))
+    go false e = ltb-false 16216 f e
 
 -- a text up to the end of what was written
 pub text-written : {at n k : ℕ} {text xs ys : List ℕ} → at ≤ length xs → Written k text at xs ys n → take n ys ≡ take at xs ++ text
@@ -109,7 +136,7 @@ roomy-text {r} {q} {k} {n} {text} {xs} {ys} long h w =
 pub one-went : {e xs st ys zs : List ℕ} {r q : Run} {t : Turn} {n f : ℕ} → length xs ≡ 16384 → Roomy r q → n ≡ (q .records + 1) % 2 ^ 64
     → f ≡ (q .frames + t .frames) % 2 ^ 64 → Turned e n (q .state) st (q .fill) xs ys zs t
     → Went (calling e ∷ []) r xs st ys zs (record { state = t .state; records = n; frames = f; fill = t .at; more = q .more; «open» = q .«open» })
-unfolding allNoted noted
+unfolding allNoted noted handed
 one-went {e} {xs} {st} {ys} {zs} {r} {q} {t} {n} {f} long h c d u =
     record {
       lines = u .line ∷ [];
@@ -120,6 +147,7 @@ one-went {e} {xs} {st} {ys} {zs} {r} {q} {t} {n} {f} long h c d u =
       keeps = λ i. record { records = number i; frames = count i; waits = text i };
       fits = omega (arith, u .text .place, u .text .short, h .room);
       closed = h .closed;
+      untried = λ none. h .untried (none-goes (r .fill) xs long none);
     }
   where
     number : n ≡ (r .records + 1) % 2 ^ 64
@@ -172,7 +200,7 @@ all-went k s long h w = rw (enough (length s) k s (omega arith) (omega arith)) w
 -- the flag for more to read is no part of it
 pub flagged : {cs : List Call} {r q : Run} {xs st ys zs : List ℕ} {b : Bool} → Went cs r xs st ys zs q
     → Went cs r xs st ys zs (record { state = q .state; records = q .records; frames = q .frames; fill = q .fill; more = b; «open» = q .«open» })
-flagged w = record { lines = w .lines; goes-on = w .goes-on; keeps = w .keeps; fits = w .fits; closed = w .closed }
+flagged w = record { lines = w .lines; goes-on = w .goes-on; keeps = w .keeps; fits = w .fits; closed = w .closed; untried = w .untried }
 
 -- nothing was read yet
 pub none-took : (r : Run) (xs st : List ℕ) → r .fill ≤ 16384 → Took r xs st xs st r

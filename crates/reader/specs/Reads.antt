@@ -52,11 +52,12 @@ fresh l = record { records = 0; frames = length (sentIn l); waits = lineText 0 l
 
 -- ---- Promises: r is what the program has before, and q after; xs and ys are its text, st and zs its store
 
--- room for a record's lines: nothing else changes, but that an output may be found closed, which stays so
+-- room for a record's lines: nothing else changes, but that an output may be found closed by handing text over to it, and then stays so
 pub record Roomy (r q : Run) : Type 0 where
   pub same : q ≡ record { state = r .state; records = r .records; frames = r .frames; fill = cond (ltb 16216 (r .fill)) 0 (r .fill); more = r .more; «open» = q .«open» }
   pub room : q .fill + 168 ≤ 16384
   pub closed : q .«open» ≡ true → r .«open» ≡ true
+  pub untried : r .fill ≤ 16216 → q .«open» ≡ r .«open»
 
 -- some calls: a run goes on by their lines, whatever its log, and what is kept is what these lines leave; so what is handed over on the way is
 -- `handed lines (kept r xs)`
@@ -66,6 +67,7 @@ pub record Went (cs : List Call) (r : Run) (xs st ys zs : List ℕ) (q : Run) : 
   pub keeps : kept q ys ≡ allNoted lines (kept r xs)
   pub fits : q .fill ≤ 16384
   pub closed : q .«open» ≡ true → r .«open» ≡ true
+  pub untried : handed lines (kept r xs) ≡ [] → q .«open» ≡ r .«open»
 
 -- some bytes that were read: their records; where there is more to read, the bytes are whole records
 pub record Took (r : Run) (xs st ys zs : List ℕ) (q : Run) : Type 0 where
