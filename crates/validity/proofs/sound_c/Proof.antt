@@ -1,8 +1,8 @@
--- `settings::validity::sound_c` meets its contract: from what the two calls ensure. Assumes nothing.
+-- `validity::sound_c` meets its contract: from what the two calls ensure. Assumes nothing.
 use borrow.Author.Needs.{needs}
 use Rattle.model.specs.Validity.{sound}
-use Rattle.settings.proofs.validity.sound_c.Statement.{statement}
-use Rattle.settings.proofs.validity.sound_c.Tie as tie
+use Rattle.validity.proofs.sound_c.Statement.{statement}
+use Rattle.validity.proofs.sound_c.Tie as tie
 
 ranges-c-requires : tie.Need-ranges-c-requires
 ranges-c-requires c κs = search needs

@@ -1,9 +1,9 @@
--- `settings::validity::valid_c` meets its contract: from what `signed_c` ensures. Assumes nothing.
+-- `validity::valid_c` meets its contract: from what `signed_c` ensures. Assumes nothing.
 use borrow.Author.Needs.{needs}
 use mathlib.Core.Path.{_∙_}
-use Rattle.settings.proofs.Alike.{valid-c}
-use Rattle.settings.proofs.validity.valid_c.Statement.{statement}
-use Rattle.settings.proofs.validity.valid_c.Tie as tie
+use Rattle.validity.proofs.Alike.{valid-c}
+use Rattle.validity.proofs.valid_c.Statement.{statement}
+use Rattle.validity.proofs.valid_c.Tie as tie
 
 signed-c-requires : tie.Need-signed-c-requires
 signed-c-requires c κs = search needs

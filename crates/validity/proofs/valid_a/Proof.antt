@@ -1,9 +1,9 @@
--- `settings::validity::valid_a` meets its contract: from what `signed_a` ensures. Assumes nothing.
+-- `validity::valid_a` meets its contract: from what `signed_a` ensures. Assumes nothing.
 use borrow.Author.Needs.{needs}
 use mathlib.Core.Path.{_∙_}
-use Rattle.settings.proofs.Alike.{valid-a}
-use Rattle.settings.proofs.validity.valid_a.Statement.{statement}
-use Rattle.settings.proofs.validity.valid_a.Tie as tie
+use Rattle.validity.proofs.Alike.{valid-a}
+use Rattle.validity.proofs.valid_a.Statement.{statement}
+use Rattle.validity.proofs.valid_a.Tie as tie
 
 signed-a-requires : tie.Need-signed-a-requires
 signed-a-requires c κs = search needs

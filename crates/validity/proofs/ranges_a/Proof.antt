@@ -1,8 +1,8 @@
--- `settings::validity::ranges_a` meets its contract: a test for each row of the group that has a range. Assumes nothing.
+-- `validity::ranges_a` meets its contract: a test for each row of the group that has a range. Assumes nothing.
 use borrow.Author.Needs.{needs}
-use Rattle.settings.proofs.Alike.{ranges-a}
-use Rattle.settings.proofs.validity.ranges_a.Statement.{statement}
-use Rattle.settings.proofs.validity.ranges_a.Tie as tie
+use Rattle.validity.proofs.Alike.{ranges-a}
+use Rattle.validity.proofs.ranges_a.Statement.{statement}
+use Rattle.validity.proofs.ranges_a.Tie as tie
 
 real-fits-requires : tie.Need-real-fits-requires
 real-fits-requires c κs = search needs

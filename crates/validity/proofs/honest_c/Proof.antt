@@ -1,9 +1,9 @@
--- `settings::validity::honest_c` meets its contract: by whether the byte is A5h. Assumes nothing.
+-- `validity::honest_c` meets its contract: by whether the byte is A5h. Assumes nothing.
 use borrow.Author.Needs.{needs}
 use mathlib.Core.Path.{sym, _∙_}
-use Rattle.settings.proofs.Alike.{valid-c}
-use Rattle.settings.proofs.validity.honest_c.Statement.{statement}
-use Rattle.settings.proofs.validity.honest_c.Tie as tie
+use Rattle.validity.proofs.Alike.{valid-c}
+use Rattle.validity.proofs.honest_c.Statement.{statement}
+use Rattle.validity.proofs.honest_c.Tie as tie
 
 vouched-c-requires : tie.Need-vouched-c-requires
 vouched-c-requires c κs = search needs

@@ -1,8 +1,8 @@
--- `settings::validity::ranges_c` meets its contract: a test for each row of the group that has a range. Assumes nothing.
+-- `validity::ranges_c` meets its contract: a test for each row of the group that has a range. Assumes nothing.
 use borrow.Author.Needs.{needs}
-use Rattle.settings.proofs.Alike.{ranges-c}
-use Rattle.settings.proofs.validity.ranges_c.Statement.{statement}
-use Rattle.settings.proofs.validity.ranges_c.Tie as tie
+use Rattle.validity.proofs.Alike.{ranges-c}
+use Rattle.validity.proofs.ranges_c.Statement.{statement}
+use Rattle.validity.proofs.ranges_c.Tie as tie
 
 is-first-cob-requires : tie.Need-is-first-cob-requires
 is-first-cob-requires c κs = search needs

@@ -1,9 +1,9 @@
--- `settings::validity::honest_a` meets its contract: by whether the byte is A5h. Assumes nothing.
+-- `validity::honest_a` meets its contract: by whether the byte is A5h. Assumes nothing.
 use borrow.Author.Needs.{needs}
 use mathlib.Core.Path.{sym, _∙_}
-use Rattle.settings.proofs.Alike.{valid-a}
-use Rattle.settings.proofs.validity.honest_a.Statement.{statement}
-use Rattle.settings.proofs.validity.honest_a.Tie as tie
+use Rattle.validity.proofs.Alike.{valid-a}
+use Rattle.validity.proofs.honest_a.Statement.{statement}
+use Rattle.validity.proofs.honest_a.Tie as tie
 
 vouched-a-requires : tie.Need-vouched-a-requires
 vouched-a-requires c κs = search needs

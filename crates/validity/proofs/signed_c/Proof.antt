@@ -1,4 +1,4 @@
--- `settings::validity::signed_c` meets its contract: the bytes are those that the group signs. Assumes nothing.
+-- `validity::signed_c` meets its contract: the bytes are those that the group signs. Assumes nothing.
 use borrow.Author.Needs.{needs}
 use mathlib.Core.Path.{_≡_}
 use Prim.Native.Nat.{_%_, _/_}
@@ -6,8 +6,8 @@ use native.Mathlib.Omega.{arith}
 use Rattle.model.specs.Bytes.{lowBytes}
 use Rattle.model.specs.Settings.{bytesOf}
 use Rattle.model.specs.Validity.{signs, valid}
-use Rattle.settings.proofs.validity.signed_c.Statement.{statement}
-use Rattle.settings.proofs.validity.signed_c.Tie as tie
+use Rattle.validity.proofs.signed_c.Statement.{statement}
+use Rattle.validity.proofs.signed_c.Tie as tie
 
 word-requires : tie.Need-word-requires
 word-requires c κs = search needs

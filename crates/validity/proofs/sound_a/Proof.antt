@@ -1,8 +1,8 @@
--- `settings::validity::sound_a` meets its contract: from what the two calls ensure. Assumes nothing.
+-- `validity::sound_a` meets its contract: from what the two calls ensure. Assumes nothing.
 use borrow.Author.Needs.{needs}
 use Rattle.model.specs.Validity.{sound}
-use Rattle.settings.proofs.validity.sound_a.Statement.{statement}
-use Rattle.settings.proofs.validity.sound_a.Tie as tie
+use Rattle.validity.proofs.sound_a.Statement.{statement}
+use Rattle.validity.proofs.sound_a.Tie as tie
 
 ranges-a-requires : tie.Need-ranges-a-requires
 ranges-a-requires c κs = search needs

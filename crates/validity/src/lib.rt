@@ -1,19 +1,19 @@
 // The ranges, the signatures and the validity bytes of the two groups. Any float may be a NaN or an infinity.
-use super::table::is_first_cob;
-use super::table::is_second_cob;
-use super::table::is_type;
-use super::values::word;
 use model::Scaling;
 use model::Settings;
 use model::SrdoSettings;
 use reading::bits_of;
 use reading::real_fits;
+use settings::table::is_first_cob;
+use settings::table::is_second_cob;
+use settings::table::is_type;
+use settings::values::word;
 use wire::crc::crc;
 ghost use mathlib.Core.Path.{_≡_};
 ghost use Rattle.model.specs.declared.Group.the-variants as G;
 ghost use Rattle.model.specs.Settings as Table;
 ghost use Rattle.model.specs.Validity as Validity;
-ghost use Rattle.settings.specs.Signed.{withC, withA};
+ghost use Rattle.validity.specs.Signed.{withC, withA};
 
 // ---- Ranges
 
