@@ -1,12 +1,12 @@
 // The state rules, and the refusals of the two calls: of the numbers that apply the first in the table counts.
 use model::State;
 use nmt::start_obeyed;
-use settings::validity::honest_a;
-use settings::validity::honest_c;
-use settings::validity::ranges_a;
-use settings::validity::ranges_c;
 use time::frames::emcy_due;
 use time::frames::reading_of;
+use validity::honest_a;
+use validity::honest_c;
+use validity::ranges_a;
+use validity::ranges_c;
 use wire::address::is_bit_index;
 use wire::address::is_node_id;
 use wire::frames::can_id;

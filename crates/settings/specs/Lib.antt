@@ -1,3 +1,2 @@
 pub mod Four
 pub mod Put
-pub mod Signed
