@@ -5,7 +5,7 @@ use lib.ListN.{length, replicate}
 use Rattle.model.specs.declared.Identity.{Identity}
 use Rattle.model.specs.declared.Frame.{Frame}
 use Rattle.model.specs.Bytes.{lowBytes}
-use Rattle.model.specs.Frames.{dataOf, syncId, sdoRequests, lssRequests}
+use Rattle.model.specs.Frames.{dataOf, syncId, tpdos, sdoRequests, lssRequests}
 use Rattle.model.specs.Step.{outputSize, zeroStore}
 use Rattle.model.specs.Run.{Call, Line, sentIn, World, begun, run}
 use Rattle.model.proofs.Everything.{everything}
@@ -41,6 +41,10 @@ lss d = gets lssRequests (padded 8 d)
 
 abbrev pub sync : List ℕ
 sync = gets syncId []
+
+-- a remote frame on the TPDO of node 1
+abbrev pub asksTpdo : List ℕ
+asksTpdo = padded 13 ((1 ∷ lowBytes 2 (tpdos + 1)) ++ (1 ∷ []))
 
 abbrev pub aTick : List ℕ
 aTick = padded 13 (2 ∷ [])

@@ -2,6 +2,7 @@
 -- CAN-ID and data. Assumes nothing.
 use Prim.Native.Nat.{ℕ}
 use mathlib.Core.Path.{_≡_, refl}
+use mathlib.Core.Bool.{false}
 use mathlib.Core.List.{List, [], _∷_, _++_}
 use lib.ListN.{replicate}
 use Rattle.model.specs.declared.Value.the-variants.{U16}
@@ -9,14 +10,14 @@ use Rattle.model.specs.declared.Parameter.the-variants.{P1017}
 use Rattle.model.specs.declared.Groups.the-variants.{Both, OnlyC}
 use Rattle.model.specs.declared.Change.the-variants.{Keep, Write, Save, Load}
 use Rattle.model.specs.declared.State.{State}
-use Rattle.model.specs.Parts.{withCore, withNmt, withTimers, timers, address}
+use Rattle.model.specs.Parts.{withCore, withNmt, withTimers, timers, sending, address}
 use Rattle.model.specs.Store.{read}
 use Rattle.model.specs.Step.{refusal, refused, powerOnAnswer, zeroStore}
 use Rattle.model.specs.Run.{called, World, run}
 use Rattle.model.specs.History.{kept, three, addresses, deeds, value}
 use Rattle.model.specs.Program.{program}
 use Rattle.model.proofs.Everything.{everything}
-use Rattle.model.proofs.Replay.{asks, reads, writes, commands, lss, aTick, ticks, sample, identity, spoken, calls, after, plainly, transcript}
+use Rattle.model.proofs.Replay.{asks, asksTpdo, reads, writes, commands, lss, sync, aTick, ticks, sample, identity, spoken, calls, after, plainly, transcript}
 
 -- ---- The program's example: 6132h:1 is read, 5 is written to it, a tick passes
 --
@@ -214,6 +215,58 @@ pub name-read : transcript
     ∷ []
 unfolding after
 name-read = refl
+
+-- ---- What ends an upload, and what its abort names: a wrong toggle, 1008h:00, and then there is none (0000h:00); a download segment likewise
+
+pub name-broken : transcript
+    (reads 0x1008 0
+    ∷ asks 1 (0x70 ∷ [])
+    ∷ asks 1 (0x60 ∷ [])
+    ∷ reads 0x1008 0
+    ∷ asks 1 (0x00 ∷ [])
+    ∷ asks 1 (0x60 ∷ [])
+    ∷ [])
+    ≡ (0x701 ∷ 0 ∷ [])
+    ∷ (0x581 ∷ 0x41 ∷ 0x08 ∷ 0x10 ∷ 0 ∷ 0x0f ∷ 0 ∷ 0 ∷ 0 ∷ [])
+    ∷ (0x581 ∷ 0x80 ∷ 0x08 ∷ 0x10 ∷ 0 ∷ 0x00 ∷ 0x00 ∷ 0x03 ∷ 0x05 ∷ [])
+    ∷ (0x581 ∷ 0x80 ∷ 0x00 ∷ 0x00 ∷ 0 ∷ 0x01 ∷ 0x00 ∷ 0x04 ∷ 0x05 ∷ [])
+    ∷ (0x581 ∷ 0x41 ∷ 0x08 ∷ 0x10 ∷ 0 ∷ 0x0f ∷ 0 ∷ 0 ∷ 0 ∷ [])
+    ∷ (0x581 ∷ 0x80 ∷ 0x08 ∷ 0x10 ∷ 0 ∷ 0x01 ∷ 0x00 ∷ 0x04 ∷ 0x05 ∷ [])
+    ∷ (0x581 ∷ 0x80 ∷ 0x00 ∷ 0x00 ∷ 0 ∷ 0x01 ∷ 0x00 ∷ 0x04 ∷ 0x05 ∷ [])
+    ∷ []
+unfolding after
+name-broken = refl
+
+-- ---- A sample is used up by the TPDO that tells it, and forgotten at a restart: type 253 answers a remote frame; type 0, written after a sample, sends
+-- nothing at the SYNC that follows, and then once at the first SYNC after another sample
+
+abbrev pub sampling : List (List ℕ)
+sampling =
+    writes 1 0x1301 1 0
+    ∷ writes 2 0x51ff 1 0xea44
+    ∷ writes 1 0x51fe 0 0xa5
+    ∷ writes 1 0x1800 2 253
+    ∷ commands 1 0
+    ∷ sample 12000
+    ∷ asksTpdo
+    ∷ []
+
+pub sample-told : plainly sampling .state .core .tpdo ≡ sending 0 false
+unfolding after
+sample-told = refl
+
+pub sample-once : transcript (sampling ++ (sample 12000 ∷ writes 1 0x1800 2 0 ∷ sync ∷ sample 8000 ∷ sync ∷ sync ∷ [])) ≡
+    (0x701 ∷ 0 ∷ [])
+    ∷ (0x581 ∷ 0x60 ∷ 0x01 ∷ 0x13 ∷ 1 ∷ 0 ∷ 0 ∷ 0 ∷ 0 ∷ [])
+    ∷ (0x581 ∷ 0x60 ∷ 0xff ∷ 0x51 ∷ 1 ∷ 0 ∷ 0 ∷ 0 ∷ 0 ∷ [])
+    ∷ (0x581 ∷ 0x60 ∷ 0xfe ∷ 0x51 ∷ 0 ∷ 0 ∷ 0 ∷ 0 ∷ 0 ∷ [])
+    ∷ (0x581 ∷ 0x60 ∷ 0x00 ∷ 0x18 ∷ 2 ∷ 0 ∷ 0 ∷ 0 ∷ 0 ∷ [])
+    ∷ (0x181 ∷ 0x40 ∷ 0x1f ∷ 0 ∷ 0 ∷ [])
+    ∷ (0x581 ∷ 0x60 ∷ 0x00 ∷ 0x18 ∷ 2 ∷ 0 ∷ 0 ∷ 0 ∷ 0 ∷ [])
+    ∷ (0x181 ∷ 0xa0 ∷ 0x0f ∷ 0 ∷ 0 ∷ [])
+    ∷ []
+unfolding after
+sample-once = refl
 
 -- ---- A heartbeat of 2 ms across the wrap of the clock: from 65535 the ticks go to 0, 1, 2, 3
 

@@ -29,6 +29,7 @@ use output::sync;
 use output::tick;
 use rules::power_on_refusal;
 use rules::refusal;
+use rules::refused;
 use service::service;
 use settings::table::defaults;
 use step::ask::Asked;
@@ -134,19 +135,6 @@ fn altered(asked: Asked, h: Core, s: State, out: &mut [u8], store: &mut [u8]) ->
     let answer = turned(c, z, reply, h, s, out, store);
     store_after(c, s, store);
     answer
-}
-
-// ---- Refusals
-
-// The answer of a refused call: no frame, and the state that it hands back.
-fn refused(number: u8, state: State) -> Answer
-    ensures { λ r. ⌜ r ≡ Step.turnedAway number state ⌝ }
-{
-    Answer {
-        number,
-        count: 0,
-        state,
-    }
 }
 
 // ---- The power-on

@@ -1,4 +1,5 @@
 // The state rules, and the refusals of the two calls: of the numbers that apply the first in the table counts.
+use model::Answer;
 use model::State;
 use nmt::start_obeyed;
 use time::frames::emcy_due;
@@ -179,4 +180,15 @@ pub fn refusal(event: &[u8], s: State, out: usize, store: usize) -> u8
         return lent;
     }
     if rules(s) { 0 } else { 6 }
+}
+
+// The answer of a refused call: no frame, and the state that it hands back.
+pub fn refused(number: u8, state: State) -> Answer
+    ensures { λ r. ⌜ r ≡ Step.turnedAway number state ⌝ }
+{
+    Answer {
+        number,
+        count: 0,
+        state,
+    }
 }
