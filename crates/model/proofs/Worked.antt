@@ -157,6 +157,25 @@ pub saved-store : plainly saving .store ≡
 unfolding after
 saved-store = refl
 
+-- ---- Reset node brings group A back as it was saved: 3 digits are saved, 4 are written, and after the reset there are 3
+
+pub node-reset : transcript
+    (writes 1 0x6132 1 3
+    ∷ writes 4 0x1010 1 0x65766173
+    ∷ writes 1 0x6132 1 4
+    ∷ commands 129 0
+    ∷ reads 0x6132 1
+    ∷ [])
+    ≡ (0x701 ∷ 0 ∷ [])
+    ∷ (0x581 ∷ 0x60 ∷ 0x32 ∷ 0x61 ∷ 1 ∷ 0 ∷ 0 ∷ 0 ∷ 0 ∷ [])
+    ∷ (0x581 ∷ 0x60 ∷ 0x10 ∷ 0x10 ∷ 1 ∷ 0 ∷ 0 ∷ 0 ∷ 0 ∷ [])
+    ∷ (0x581 ∷ 0x60 ∷ 0x32 ∷ 0x61 ∷ 1 ∷ 0 ∷ 0 ∷ 0 ∷ 0 ∷ [])
+    ∷ (0x701 ∷ 0 ∷ [])
+    ∷ (0x581 ∷ 0x4f ∷ 0x32 ∷ 0x61 ∷ 1 ∷ 3 ∷ 0 ∷ 0 ∷ 0 ∷ [])
+    ∷ []
+unfolding after
+node-reset = refl
+
 -- ---- A changed ID: C is saved under ID 1 with 1301h:5 at 17Fh, the node becomes 5, and 1301h:5 and :6 take the defaults of ID 5
 
 pub changed-id : transcript

@@ -1,10 +1,17 @@
-// NMT: the commands and the resets.
+// NMT: the commands and the resets, and the state that a power-on resets.
+use model::Address;
 use model::Core;
 use model::Frame;
 use model::Fv;
 use model::Groups;
+use model::Identity;
+use model::Selection;
+use model::Sending;
 use model::Settings;
 use model::State;
+use model::Timers;
+use model::Upload;
+use settings::table::defaults;
 use time::frames::heartbeat_frame;
 use time::restarts::restart_heartbeat;
 use time::restarts::restart_srdo;
@@ -13,6 +20,7 @@ ghost use mathlib.Core.Path.{_≡_};
 ghost use Prim.Native.Nat.{_≤_};
 ghost use Rattle.model.specs.Store.{Saved, addressFrom};
 ghost use Rattle.model.specs.Nmt as Nmt;
+ghost use Rattle.model.specs.Step as Step;
 
 // ---- Start, Stop and Pre-operational
 
@@ -166,4 +174,44 @@ pub fn boot_up(id: u8) -> Frame
     ensures { λ r. ⌜ r ≡ Nmt.bootUp id ⌝ }
 {
     heartbeat_frame(id, 0)
+}
+
+// ---- Before the power-on
+
+// A state at clock 0: the load leaves only the identity and the clock of it.
+pub fn unborn(identity: Identity) -> State
+    ensures { λ r. ⌜ r ≡ Step.unborn identity ⌝ }
+{
+    let settings = defaults(1);
+    let core = Core {
+        active: Address { id: 1, bit: 3 },
+        pending: Address { id: 1, bit: 3 },
+        nmt: 127,
+        reported: false,
+        fv: Fv(0),
+        timers: Timers {
+            clock: 0,
+            heartbeat: 0,
+            tpdo: 0,
+            srdo: 0,
+        },
+        tpdo: Sending {
+            syncs: 0,
+            sample: false,
+        },
+        lss: Selection {
+            configuration: false,
+            progress: 0,
+        },
+        upload: Upload {
+            busy: false,
+            at: 0,
+            toggle: 0,
+        },
+    };
+    State {
+        identity,
+        settings,
+        core,
+    }
 }

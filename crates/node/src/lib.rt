@@ -2,22 +2,17 @@
 use image::Sizes;
 use lss::lss_reply;
 use lss::lss_served;
-use model::Address;
 use model::Answer;
 use model::Change;
 use model::Core;
-use model::Fv;
 use model::Groups;
 use model::Identity;
 use model::LssRequest;
 use model::Reply;
-use model::Selection;
-use model::Sending;
 use model::Service;
 use model::State;
-use model::Timers;
-use model::Upload;
 use nmt::commanded;
+use nmt::unborn;
 use output::Sent;
 use output::emcy_after;
 use output::remote;
@@ -31,7 +26,6 @@ use rules::power_on_refusal;
 use rules::refusal;
 use rules::refused;
 use service::service;
-use settings::table::defaults;
 use step::ask::Asked;
 use step::ask::ask_lss;
 use step::ask::ask_nmt;
@@ -138,44 +132,6 @@ fn altered(asked: Asked, h: Core, s: State, out: &mut [u8], store: &mut [u8]) ->
 }
 
 // ---- The power-on
-
-// A state at clock 0: the load leaves only the identity and the clock of it.
-fn unborn(identity: Identity) -> State
-    ensures { λ r. ⌜ r ≡ Step.unborn identity ⌝ }
-{
-    let settings = defaults(1);
-    let core = Core {
-        active: Address { id: 1, bit: 3 },
-        pending: Address { id: 1, bit: 3 },
-        nmt: 127,
-        reported: false,
-        fv: Fv(0),
-        timers: Timers {
-            clock: 0,
-            heartbeat: 0,
-            tpdo: 0,
-            srdo: 0,
-        },
-        tpdo: Sending {
-            syncs: 0,
-            sample: false,
-        },
-        lss: Selection {
-            configuration: false,
-            progress: 0,
-        },
-        upload: Upload {
-            busy: false,
-            at: 0,
-            toggle: 0,
-        },
-    };
-    State {
-        identity,
-        settings,
-        core,
-    }
-}
 
 // The node as the load of a power-on leaves it: both groups, under the ID saved in N, with its boot-up and EMCY.
 fn wake(identity: Identity, out: &mut [u8], store: &[u8]) -> Answer
