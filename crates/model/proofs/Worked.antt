@@ -34,6 +34,19 @@ pub example : program (reads 0x6132 1 ++ writes 1 0x6132 1 5 ++ aTick) ≡
 unfolding everything
 example = refl
 
+-- ---- A short record is refused by 1, and counts as read
+--
+--   0 701 00
+--   1 refused 1
+--   end 1 events 1 frames
+
+pub short-record : program (2 ∷ 0 ∷ []) ≡
+    (48 ∷ 32 ∷ 55 ∷ 48 ∷ 49 ∷ 32 ∷ 48 ∷ 48 ∷ 10 ∷ [])
+    ++ (49 ∷ 32 ∷ 114 ∷ 101 ∷ 102 ∷ 117 ∷ 115 ∷ 101 ∷ 100 ∷ 32 ∷ 49 ∷ 10 ∷ [])
+    ++ (101 ∷ 110 ∷ 100 ∷ 32 ∷ 49 ∷ 32 ∷ 101 ∷ 118 ∷ 101 ∷ 110 ∷ 116 ∷ 115 ∷ 32 ∷ 49 ∷ 32 ∷ 102 ∷ 114 ∷ 97 ∷ 109 ∷ 101 ∷ 115 ∷ 10 ∷ [])
+unfolding everything
+short-record = refl
+
 -- ---- The order of the checks, two rules broken at once: in Operational a starred entry is locked before its value is looked at (5 is out of range);
 -- 1000h is read-only before its length is; without a star, the length comes before the value
 
