@@ -17,6 +17,7 @@ use Rattle.laws.proofs.Calls.{of-session}
 -- over every run
 pub demanded : (i : Identity) (room : ℕ) (st : List ℕ) (cs : List Call) → powerOnRefusal room (length st) ≡ done → Bytes st
     → Demanded (read st) (run cs (begun i room st))
+unfolding run begun
 demanded i room st cs accepted bytes =
     record {
       values = history i room st cs accepted bytes;

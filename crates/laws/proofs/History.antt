@@ -27,8 +27,9 @@ use Rattle.model.specs.Service.{service}
 use Rattle.model.specs.Changes.{effect, applied, stored}
 use Rattle.model.specs.Rules.{rules}
 use Rattle.model.specs.Step.{done, storeSize, refusal, powerOnRefusal, changeOf, heard, served, step, unborn, powerOn}
-use Rattle.model.specs.Run.{Call, Line, called, World, begun, after, continued, run}
+use Rattle.model.specs.Run.{Call, Line, called, World, begunBy, begun, after, continuedBy, continued, runBy}
 use Rattle.model.specs.History.{lineRefusal, isServed, Addresses, addressesOf, serviceDeed, deed, servicePending, linePending, moved, addresses, activeId, deeds, heldFor, heldIdIn, heldId, value, held}
+use Rattle.laws.specs.Nodes.{proved}
 use Rattle.laws.proofs.Tests.{cond-case, hit-zero}
 use Rattle.laws.proofs.Parameters.{AllFit, all-typed, default-fine, made-is}
 use Rattle.laws.proofs.Loading.{first-held, address-ok, address-held}
@@ -90,7 +91,7 @@ module _ (sv : Saved) (c : Call) (w : World) (h : Told sv w) (e : lineRefusal (c
   made-change = changeOf v (w .state) (read (w .store))
 
   abbrev next : World
-  next = after c (step (c .event) (w .state) (w .store)) (w .log)
+  next = after c (proved .serves (c .event) (w .state) (w .store)) (w .log)
 
   allowed : Allowed made-change (w .state)
   allowed = change-allowed (w .state) (w .store) (h .keeps) v
@@ -125,23 +126,22 @@ abbrev Fine : Saved → World → Type 0
 Fine sv x =
     Agrees sv (x .state .settings) (idOf (x .state)) (x .store) (deeds sv (x .log)) × (addressesOf (x .state .core) (read (x .store)) ≡ addresses sv (x .log))
 
-fine-next : (sv : Saved) (c : Call) (w : World) → Told sv w → Fine sv (continued c w)
-unfolding continued
+fine-next : (sv : Saved) (c : Call) (w : World) → Told sv w → Fine sv (continuedBy proved c w)
 fine-next sv c w h =
     rw (told-refusal sv c w h)
     (cond-case (Fine sv) (isServed (c .event) (c .room))
     (λ e. let z = eqb-true _ done e in (next-agrees sv c w h z, next-places sv c w h z))
     (λ e. (same-agrees sv c w h e, same-places sv c w h e)))
 
-pub told-next : (sv : Saved) (c : Call) (w : World) → Told sv w → Told sv (continued c w)
+pub told-next : (sv : Saved) (c : Call) (w : World) → Told sv w → Told sv (continuedBy proved c w)
+unfolding continued
 told-next sv c w h =
     let f = fine-next sv c w h in
     record { agrees = f .0; places = f .1; keeps = continued-rules c w (h .keeps); size = continued-size c w (h .size) }
 
-pub told-run : (sv : Saved) (cs : List Call) (w : World) → Told sv w → Told sv (run cs w)
-unfolding run continued
+pub told-run : (sv : Saved) (cs : List Call) (w : World) → Told sv w → Told sv (runBy proved cs w)
 told-run sv [] w h = h
-told-run sv (c ∷ cs) w h = told-run sv cs (continued c w) (told-next sv c w h)
+told-run sv (c ∷ cs) w h = told-run sv cs (continuedBy proved c w) (told-next sv c w h)
 
 -- ---- the power-on
 
@@ -165,17 +165,18 @@ module _ (i : Identity) (room : ℕ) (st : List ℕ) (e : powerOnRefusal room (l
   abbrev load : Change
   load = Load Both (addressFrom (read st) .id)
 
-  begun-agrees : let w = begun i room st in Agrees (read st) (w .state .settings) (idOf (w .state)) (w .store) (deeds (read st) (w .log))
+  begun-agrees : let w = begunBy proved i room st in Agrees (read st) (w .state .settings) (idOf (w .state)) (w .store) (deeds (read st) (w .log))
   unfolding begun powerOn deeds deed addresses
   begun-agrees =
       rw (e, ← (address-held (read st)))
       (served-agrees (read st) (unborn i) st [] load Nothing (address-ok st .0, refl) (unborn-agrees i st b))
 
-  begun-places : let w = begun i room st in addressesOf (w .state .core) (read (w .store)) ≡ addresses (read st) (w .log)
+  begun-places : let w = begunBy proved i room st in addressesOf (w .state .core) (read (w .store)) ≡ addresses (read st) (w .log)
   unfolding begun powerOn deed addresses linePending stored heard
   begun-places = rw (e, ← (address-held (read st))) (served-addresses load Nothing (unborn i) st refl)
 
-  pub told-begun : Told (read st) (begun i room st)
+  pub told-begun : Told (read st) (begunBy proved i room st)
+  unfolding begun
   told-begun =
       record {
         agrees = begun-agrees;
@@ -186,13 +187,13 @@ module _ (i : Identity) (room : ℕ) (st : List ℕ) (e : powerOnRefusal room (l
 
 -- ---- THE THEOREM
 
--- the world after a power-on with this room for output and this store, and then these calls
+-- the world after a power-on with this room for output and this store, and then these calls, of the node of document 01 (`proved` is that one)
 abbrev pub ran : Identity → ℕ → List ℕ → List Call → World
-ran i room st cs = run cs (begun i room st)
+ran i room st cs = runBy proved cs (begunBy proved i room st)
 
 module _ (i : Identity) (room : ℕ) (st : List ℕ) (cs : List Call) (accepted : powerOnRefusal room (length st) ≡ done) (bytes : Bytes st) where
   all-told : Told (read st) (ran i room st cs)
-  all-told = told-run (read st) cs (begun i room st) (told-begun i room st accepted bytes)
+  all-told = told-run (read st) cs (begunBy proved i room st) (told-begun i room st accepted bytes)
 
   -- each parameter is what the log says
   pub history : (q : Parameter) → inForce (ran i room st cs .state .settings) q ≡ value (read st) q (deeds (read st) (ran i room st cs .log))

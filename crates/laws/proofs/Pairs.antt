@@ -44,8 +44,9 @@ use Rattle.model.specs.Sdo.{checkedWrite, sdoReply, serves}
 use Rattle.model.specs.Lss.{answered, lssReply}
 use Rattle.model.specs.Rules.{rules}
 use Rattle.model.specs.Step.{done, refusal, powerOnRefusal, changeOf, reply, booted, heard, coreAfter, changed, reports, served, step, unborn, powerOn}
-use Rattle.model.specs.Run.{Call, Line, sentIn, World, begun, continued}
+use Rattle.model.specs.Run.{Call, Line, sentIn, World, begun, continuedBy, continued}
 use Rattle.model.specs.Pairs.{safety, bitsOf, Safe, none, other, pair}
+use Rattle.laws.specs.Nodes.{paired}
 use Rattle.laws.proofs.Ids.{read-id, write-id, segment-id}
 use Rattle.laws.proofs.Tests.{cond-case, and-l, and-r, and-false, implies, within-is}
 use Rattle.laws.proofs.Loading.{address-ok}
@@ -232,17 +233,17 @@ SafeIn v w = Safe v (w .state .settings) (w .state .core .fv) (newest (w .log))
 -- each call of a run
 abbrev pub SafeRun : List Call → World → Type 0
 SafeRun [] w = Unit {0}
-SafeRun (c ∷ cs) w = SafeIn (service (c .event)) (continued c w) × SafeRun cs (continued c w)
+SafeRun (c ∷ cs) w = SafeIn (service (c .event)) (continuedBy paired c w) × SafeRun cs (continuedBy paired c w)
 
-pub continued-safe : (c : Call) (w : World) → rules (w .state) ≡ true → SafeIn (service (c .event)) (continued c w)
-unfolding continued
+pub continued-safe : (c : Call) (w : World) → rules (w .state) ≡ true → SafeIn (service (c .event)) (continuedBy paired c w)
 continued-safe c w r =
     cond-case (SafeIn (service (c .event))) (eqb (refusal (c .event) (w .state) (c .room) (length (w .store))) done)
     (λ _. step-safe (c .event) (w .state) (w .store) r) (λ _. none)
 
 run-safe : (cs : List Call) (w : World) → rules (w .state) ≡ true → SafeRun cs w
+unfolding continued
 run-safe [] w r = tt
-run-safe (c ∷ cs) w r = (continued-safe c w r, run-safe cs (continued c w) (continued-rules c w r))
+run-safe (c ∷ cs) w r = (continued-safe c w r, run-safe cs (continuedBy paired c w) (continued-rules c w r))
 
 pub power-on-safe : (i : Identity) (st : List ℕ) → let o = powerOn i st in Safe Nothing (o .state .settings) (o .state .core .fv) (o .sent)
 unfolding powerOn

@@ -136,6 +136,7 @@ safe-next sv c w h =
     (λ e told fv. (none, h .safe))
 
 shown-next : (sv : Saved) (c : Call) (w : World) → Shown sv w → Shown sv (continued c w)
+unfolding continued
 shown-next sv c w h =
     let t = told-next sv c w (h .told) in
     let f = fv-next sv c w (h .told) (h .fv-is) in
@@ -162,6 +163,7 @@ begun-log i room st e =
 
 shown-begun : (i : Identity) (room : ℕ) (st : List ℕ) → powerOnRefusal room (length st) ≡ done → Bytes st
     → Shown (read st) (begun i room st)
+unfolding begun
 shown-begun i room st e b =
     let t = told-begun i room st e b in
     let f = begun-fv i room st e in

@@ -1,4 +1,4 @@
--- Wrong nodes: each is the node of document 01 with one thing wrong. And the node of which the third demand is proved. Assumes nothing.
+-- Wrong nodes: each is the node of document 01 with one thing wrong. And that node, as the theorems name it. Assumes nothing.
 use Prim.Native.Nat.{ℕ}
 use mathlib.Core.Bool.{Bool, true, false, cond}
 use mathlib.Core.List.{List, [], _∷_}
@@ -97,7 +97,11 @@ alwaysPairs =
     let o = step e s st in
     cond (eqb (kindOfEvent e) 2) (record { state = o .state; sent = srdoFirst (o .state) ∷ srdoSecond (o .state) ∷ []; store = o .store }) o)
 
--- ---- The node of which the third demand is proved (proofs/Demands): an edit that puts a wrong one here has to be refused
+-- ---- The node of document 01, under the names by which the history (proofs/History) and the pairs (proofs/Pairs) are proved of it: an edit that puts a
+-- wrong one in its place has to be refused there
 
 abbrev pub proved : Node
 proved = rightNode
+
+abbrev pub paired : Node
+paired = rightNode
