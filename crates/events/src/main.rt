@@ -1,5 +1,7 @@
 // The event program: it powers a node on, reads records of 13 bytes from standard input and writes a line for each frame and each refusal, both
 // by way of a buffer.
+#![tactic(auto)]
+
 ghost use Rattle.std.specs.Prelude.{◌≡◌, ◌<◌, ◌≤◌, true, false, [], ◌∷◌, ◌++◌, length, take, drop, if◌then◌else◌, ◌==◌};
 ghost use Rattle.model.specs.Step.{zero_store};
 ghost use Rattle.model.specs.Program as Text;
@@ -13,7 +15,7 @@ use text::end_line;
 
 // What is kept from record to record: the node, the counts, how much of the text is waiting, whether there is more to read, and whether the output
 // still takes text.
-#[derive(Drop)]
+#[derive(Clone, Copy)]
 struct Run {
     state: State,
     records: u64,

@@ -1,4 +1,6 @@
 // The store's image of 64 bytes: written anew of the records N, C and A, and tested. An absent record is an empty slice.
+#![tactic(auto)]
+
 ghost use Rattle.std.specs.Prelude.{◌≡◌, ◌++◌, ◌+◌, ◌≤◌, ◌<◌, length, take};
 ghost use Rattle.model.specs.Bytes.{low_bytes, part, same_bytes};
 ghost use Rattle.model.specs.Signature.{crc_of};
@@ -64,7 +66,7 @@ pub fn write_image(out: &mut [u8], n: &[u8], c: &[u8], a: &[u8])
 // ---- Testing
 
 // How many bytes of an image are records.
-#[derive(Drop)]
+#[derive(Clone, Copy)]
 pub struct Sizes {
     pub n: usize,
     pub c: usize,

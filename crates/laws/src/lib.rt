@@ -1,1 +1,2 @@
 // No code: the theorems over the definitions of `model` stand in proofs/.
+#![tactic(auto)]

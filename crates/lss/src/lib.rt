@@ -1,4 +1,6 @@
 // LSS: selection by identity, and what is asked in configuration.
+#![tactic(auto)]
+
 ghost use Rattle.std.specs.Prelude.{◌≡◌, [], ◌∷◌, ◌≤◌};
 ghost use Rattle.model.specs.Bytes.{low_bytes};
 ghost use Rattle.model.specs.Frames.{frames_of};

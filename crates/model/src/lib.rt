@@ -1,21 +1,22 @@
 // The types of document 01: plain data and no code. What each value means is said in specs/.
 // The structs that a state is made of hold numbers, floats and bools alone, laid out as C has them, so that firmware keeps a state by value.
+#![tactic(auto)]
 
 // ---- Readings
 
 // FV, the converted count, not yet scaled (7100h).
 #[repr(C)]
-#[derive(Drop)]
+#[derive(Clone, Copy)]
 pub struct Fv(pub u16);
 
 // PV, in the physical unit (6130h).
 #[repr(C)]
-#[derive(Drop)]
+#[derive(Clone, Copy)]
 pub struct Pv(pub f32);
 
 // The two scaling points and the offset, which travel together: 6121h, 6123h, 6124h.
 #[repr(C)]
-#[derive(Drop)]
+#[derive(Clone, Copy)]
 pub struct Scaling {
     pub low: f32,
     pub high: f32,
@@ -24,7 +25,7 @@ pub struct Scaling {
 
 // The integer PV (9130h): the 32 bits of an Integer32, and whether the reading is capped.
 #[repr(C)]
-#[derive(Drop)]
+#[derive(Clone, Copy)]
 pub struct Integer {
     pub bits: u32,
     pub capped: bool,
@@ -33,7 +34,7 @@ pub struct Integer {
 // ---- Dictionary
 
 // An entry's value, which travels with its type.
-#[derive(Drop)]
+#[derive(Clone, Copy)]
 pub enum Value {
     U8(u8),
     U16(u16),
@@ -43,7 +44,7 @@ pub enum Value {
 }
 
 // The type alone.
-#[derive(Drop)]
+#[derive(Clone, Copy)]
 pub enum Kind {
     U8,
     U16,
@@ -53,7 +54,7 @@ pub enum Kind {
 }
 
 // The saved parameters, by index, and by sub where the object is a record: P1301s5 is 1301h:5.
-#[derive(Drop)]
+#[derive(Clone, Copy)]
 pub enum Parameter {
     P1017,
     P1301s1,
@@ -75,14 +76,14 @@ pub enum Parameter {
 }
 
 // The group that a saved parameter is saved with: communication or application.
-#[derive(Drop)]
+#[derive(Clone, Copy)]
 pub enum Group {
     C,
     A,
 }
 
 // The groups that a sub of 1010h or 1011h names, or that a reset loads.
-#[derive(Drop)]
+#[derive(Clone, Copy)]
 pub enum Groups {
     Both,
     OnlyC,
@@ -90,7 +91,7 @@ pub enum Groups {
 }
 
 // How a value stands to its range: in it, outside its set (or not finite), above or below.
-#[derive(Drop)]
+#[derive(Clone, Copy)]
 pub enum Verdict {
     Inside,
     Outside,
@@ -99,7 +100,7 @@ pub enum Verdict {
 }
 
 // A read-only value that is made from the state.
-#[derive(Drop)]
+#[derive(Clone, Copy)]
 pub enum Live {
     ErrorRegister,
     EmcyId,
@@ -118,7 +119,7 @@ pub enum Live {
 }
 
 // What stands at an index and sub.
-#[derive(Drop)]
+#[derive(Clone, Copy)]
 pub enum Entry {
     Fixed(Value),
     Name,
@@ -129,7 +130,7 @@ pub enum Entry {
 }
 
 // What a look at an index and sub finds.
-#[derive(Drop)]
+#[derive(Clone, Copy)]
 pub enum Found {
     NoObject,
     NoSub,
@@ -137,7 +138,7 @@ pub enum Found {
 }
 
 // What an entry reads as: the name, which is a string, or a value.
-#[derive(Drop)]
+#[derive(Clone, Copy)]
 pub enum Content {
     Text,
     Plain(Value),
@@ -146,7 +147,7 @@ pub enum Content {
 // ---- What an event asks, by its bytes alone
 
 // An SDO request. A download's size is 0 where it is not indicated; its data are the four bytes, low first.
-#[derive(Drop)]
+#[derive(Clone, Copy)]
 pub enum SdoRequest {
     Download {
         index: u16,
@@ -170,7 +171,7 @@ pub enum SdoRequest {
 }
 
 // An LSS frame. Parts of the identity count from 0.
-#[derive(Drop)]
+#[derive(Clone, Copy)]
 pub enum LssRequest {
     SwitchMode(u8),
     Select { part: u8, number: u32 },
@@ -183,7 +184,7 @@ pub enum LssRequest {
 }
 
 // A service and what is asked of it. `to` is the Node-ID that the CAN-ID or the NMT frame names.
-#[derive(Drop)]
+#[derive(Clone, Copy)]
 pub enum Service {
     Nothing,
     Tick,
@@ -197,7 +198,7 @@ pub enum Service {
 
 // ---- What an event does to the saved parameters and to the store: nothing else touches them
 
-#[derive(Drop)]
+#[derive(Clone, Copy)]
 pub enum Change {
     Keep,
     Write(Parameter, Value),
@@ -208,7 +209,7 @@ pub enum Change {
 }
 
 // The answer of the write checks: the abort code, or the change that the write makes.
-#[derive(Drop)]
+#[derive(Clone, Copy)]
 pub enum Checked {
     Refused(u32),
     Accepted(Change),
@@ -217,7 +218,7 @@ pub enum Checked {
 // ---- Time
 
 // The timer that a saved parameter is the period or type of.
-#[derive(Drop)]
+#[derive(Clone, Copy)]
 pub enum Timer {
     NoTimer,
     Heartbeat,
@@ -226,7 +227,7 @@ pub enum Timer {
 }
 
 // What a transmission type (1800h:2) sends at.
-#[derive(Drop)]
+#[derive(Clone, Copy)]
 pub enum Transmission {
     OnSample,
     OnSyncs,
@@ -239,7 +240,7 @@ pub enum Transmission {
 
 // A data frame that the node sends: CAN-ID, length, data (zero past the length).
 #[repr(C)]
-#[derive(Drop)]
+#[derive(Clone, Copy)]
 pub struct Frame {
     pub id: u16,
     pub len: u8,
@@ -255,7 +256,7 @@ pub struct Frame {
 
 // At most one frame: what a service sends, where it sends anything.
 #[repr(C)]
-#[derive(Drop)]
+#[derive(Clone, Copy)]
 pub struct Reply {
     pub send: bool,
     pub frame: Frame,
@@ -265,7 +266,7 @@ pub struct Reply {
 
 // 1018h:1..4.
 #[repr(C)]
-#[derive(Drop)]
+#[derive(Clone, Copy)]
 pub struct Identity {
     pub vendor: u32,
     pub product: u32,
@@ -275,7 +276,7 @@ pub struct Identity {
 
 // 1301h:1, 2, 3, 5, 6.
 #[repr(C)]
-#[derive(Drop)]
+#[derive(Clone, Copy)]
 pub struct SrdoSettings {
     pub direction: u8,
     pub refresh: u16,
@@ -286,7 +287,7 @@ pub struct SrdoSettings {
 
 // 1800h:2, 5.
 #[repr(C)]
-#[derive(Drop)]
+#[derive(Clone, Copy)]
 pub struct TpdoSettings {
     pub kind: u8,
     pub period: u16,
@@ -294,7 +295,7 @@ pub struct TpdoSettings {
 
 // Group C: 1017h, 1301h, 1800h, 13FEh, 13FFh.
 #[repr(C)]
-#[derive(Drop)]
+#[derive(Clone, Copy)]
 pub struct Communication {
     pub heartbeat: u16,
     pub srdo: SrdoSettings,
@@ -305,7 +306,7 @@ pub struct Communication {
 
 // Group A: 2330h, 6121h to 6124h, 6132h, 51FEh, 51FFh.
 #[repr(C)]
-#[derive(Drop)]
+#[derive(Clone, Copy)]
 pub struct Application {
     pub autostart: u8,
     pub scaling: Scaling,
@@ -316,7 +317,7 @@ pub struct Application {
 
 // The seventeen saved parameters in force.
 #[repr(C)]
-#[derive(Drop)]
+#[derive(Clone, Copy)]
 pub struct Settings {
     pub communication: Communication,
     pub application: Application,
@@ -324,7 +325,7 @@ pub struct Settings {
 
 // Node-ID and bit index, as the N record has them.
 #[repr(C)]
-#[derive(Drop)]
+#[derive(Clone, Copy)]
 pub struct Address {
     pub id: u8,
     pub bit: u8,
@@ -332,7 +333,7 @@ pub struct Address {
 
 // The clock, and where each timer started.
 #[repr(C)]
-#[derive(Drop)]
+#[derive(Clone, Copy)]
 pub struct Timers {
     pub clock: u16,
     pub heartbeat: u16,
@@ -342,7 +343,7 @@ pub struct Timers {
 
 // What the TPDO remembers: SYNCs counted, and whether a sample came since the last TPDO.
 #[repr(C)]
-#[derive(Drop)]
+#[derive(Clone, Copy)]
 pub struct Sending {
     pub syncs: u8,
     pub sample: bool,
@@ -350,7 +351,7 @@ pub struct Sending {
 
 // LSS: whether in configuration, and how many of 40h..43h have matched.
 #[repr(C)]
-#[derive(Drop)]
+#[derive(Clone, Copy)]
 pub struct Selection {
     pub configuration: bool,
     pub progress: u8,
@@ -358,7 +359,7 @@ pub struct Selection {
 
 // The upload of 1008h: whether one is open, at which byte, with which toggle.
 #[repr(C)]
-#[derive(Drop)]
+#[derive(Clone, Copy)]
 pub struct Upload {
     pub busy: bool,
     pub at: u8,
@@ -367,7 +368,7 @@ pub struct Upload {
 
 // All of the state that no save keeps.
 #[repr(C)]
-#[derive(Drop)]
+#[derive(Clone, Copy)]
 pub struct Core {
     pub active: Address,
     pub pending: Address,
@@ -381,7 +382,7 @@ pub struct Core {
 }
 
 #[repr(C)]
-#[derive(Drop)]
+#[derive(Clone, Copy)]
 pub struct State {
     pub identity: Identity,
     pub settings: Settings,
@@ -391,7 +392,7 @@ pub struct State {
 // ---- The answer of a call
 
 #[repr(C)]
-#[derive(Drop)]
+#[derive(Clone, Copy)]
 pub struct Answer {
     pub number: u8,
     pub count: u8,

@@ -1,4 +1,6 @@
 // NMT: the commands and the resets, and the state that a power-on resets.
+#![tactic(auto)]
+
 ghost use Rattle.std.specs.Prelude.{◌≡◌, ◌≤◌};
 ghost use Rattle.model.specs.Store.{Saved, address_from};
 ghost use Rattle.model.specs.Nmt as Nmt;

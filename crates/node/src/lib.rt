@@ -1,4 +1,6 @@
 // The node: power-on, and one event. What users call.
+#![tactic(auto)]
+
 ghost use Rattle.std.specs.Prelude.{◌≡◌, ◌≤◌, length};
 ghost use Rattle.model.specs.declared.Service.{Service};
 ghost use Rattle.model.specs.declared.Service.TheVariants as Service;

@@ -1,4 +1,6 @@
 // What an event sends, laid into the output: the reply, the boot-up and EMCY, or the frames of a tick; and the services that send and change no parameter.
+#![tactic(auto)]
+
 ghost use Rattle.std.specs.Prelude.{◌≡◌, cond, ◌++◌, ◌≤◌, length};
 ghost use Rattle.model.specs.Frames as Frames;
 ghost use Rattle.model.specs.Frames.{frames_of};
@@ -22,7 +24,7 @@ use wire::frames::emit;
 // ---- EMCY
 
 // EMCY where it is due, and the reported flag after that.
-#[derive(Drop)]
+#[derive(Clone, Copy)]
 pub struct Reported {
     pub emcy: Reply,
     pub reported: bool,
@@ -64,7 +66,7 @@ pub fn send(reply: Reply, boot: Reply, emcy: Reply, out: &mut [u8]) -> u8
 // ---- An event that leaves the parameters
 
 // What an event that leaves the parameters comes to: how many frames went out, and the core after it.
-#[derive(Drop)]
+#[derive(Clone, Copy)]
 pub struct Sent {
     pub count: u8,
     pub core: Core,

@@ -1,5 +1,6 @@
 // The node for C: the two calls of `node` under names that a linker sees, with the very same promises.
 // include/seumhwari.h is the C side.
+#![tactic(auto)]
 
 ghost use Rattle.model.specs.Step as Step;
 ghost use Rattle.model.specs.Step.{Gives};

@@ -1,5 +1,7 @@
 // Asks the settings, the dictionary and the store some questions and writes down what they answer: the marked cases 1, 6, 7 and 8 of the
 // requirements and more writes besides. `stdout` holds what a node written apart from this one answers (tests/probe_expected.py).
+#![tactic(auto)]
+
 use dictionary::objects::find;
 use dictionary::write::checked_write;
 use libc::STDOUT_FILENO;

@@ -1,4 +1,6 @@
 // The event program but for its descriptors: each call's lines are written behind the text so far.
+#![tactic(auto)]
+
 ghost use Rattle.std.specs.Prelude.{◌+◌, ◌≤◌, length};
 ghost use Rattle.model.specs.Program.{zero_identity};
 ghost use Rattle.program.specs.Turns.{Begins, Turned};
@@ -8,7 +10,7 @@ use node::{event, power_on};
 use text::lines;
 
 // What a call leaves: the state, the place after its lines, and how many frames it sent.
-#[derive(Drop)]
+#[derive(Clone, Copy)]
 pub struct Turn {
     pub state: State,
     pub at: usize,

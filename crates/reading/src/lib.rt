@@ -1,5 +1,7 @@
 // Readings: from FV to PV, and from PV to the integer PV; and the bits and the range of Real32 and Integer32 values.
 // Nothing is required but that the digits are 4 at most: any float may be a NaN or an infinity.
+#![tactic(auto)]
+
 ghost use Rattle.std.specs.Prelude.{◌≡◌, ◌+◌, ◌*◌, ◌/◌, ◌^◌, ◌≤◌, ◌<◌};
 ghost use Rattle.std.specs.Float.{binary32};
 ghost use Rattle.std.specs.Float.Ieee.{of_bits, to_bits};

@@ -1,4 +1,6 @@
 // The state rules, and the refusals of the two calls: of the numbers that apply the first in the table counts.
+#![tactic(auto)]
+
 ghost use Rattle.std.specs.Prelude.{◌≡◌, ◌≤◌};
 ghost use Rattle.model.specs.Rules as Rules;
 ghost use Rattle.model.specs.Step as Step;

@@ -15,7 +15,7 @@ use dictionary::write::checked_write;
 use model::{Change, Checked, Frame, Reply, SdoRequest, State, Upload};
 
 // What a request comes to, the upload apart: what it changes, and its reply.
-#[derive(Drop)]
+#[derive(Clone, Copy)]
 pub struct Served {
     pub change: Change,
     pub reply: Reply,

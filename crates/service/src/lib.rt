@@ -1,4 +1,6 @@
 // What an event asks, by its bytes alone.
+#![tactic(auto)]
+
 ghost use Rattle.std.specs.Prelude.{◌≡◌};
 ghost use Rattle.model.specs.Service as Asked;
 

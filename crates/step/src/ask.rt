@@ -19,7 +19,7 @@ use store::saved::saved_sizes;
 use time::frames::silent;
 
 // What a service comes to. Where the change is a load, the store was read, and these are the sizes of what is saved in it.
-#[derive(Drop)]
+#[derive(Clone, Copy)]
 pub struct Asked {
     pub change: Change,
     pub reply: Reply,

@@ -1,4 +1,6 @@
 // The text of the event program, line by line, into a buffer that the caller lends. Each function writes from a place on and answers the place after.
+#![tactic(auto)]
+
 ghost use Rattle.std.specs.Prelude.{◌≡◌, [], ◌∷◌, ◌++◌, ◌+◌, ◌*◌, ◌<◌, ◌≤◌, length, drop};
 ghost use Rattle.model.specs.Program as Text;
 ghost use Rattle.text.specs.Written.{Written, Digits};

@@ -13,7 +13,7 @@ use reading::{bits_of, integer_pv, to_pv};
 // ---- The present reading
 
 // The bits of PV, and the integer PV. It is made once an event, for the frames and for EMCY.
-#[derive(Drop)]
+#[derive(Clone, Copy)]
 pub struct Reading {
     pub bits: u32,
     pub integer: Integer,

@@ -8,7 +8,7 @@ use model::{Core, State};
 use wire::clock::{fires, fires_unless_off, next};
 
 // What is due at a tick. The sender goes by it too.
-#[derive(Drop)]
+#[derive(Clone, Copy)]
 pub struct Due {
     pub heartbeat: bool,
     pub tpdo: bool,

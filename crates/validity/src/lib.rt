@@ -1,4 +1,6 @@
 // The ranges, the signatures and the validity bytes of the two groups. Any float may be a NaN or an infinity.
+#![tactic(auto)]
+
 ghost use Rattle.std.specs.Prelude.{◌≡◌};
 ghost use Rattle.model.specs.declared.Group.TheVariants as G;
 ghost use Rattle.model.specs.Settings as Table;

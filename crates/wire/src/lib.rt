@@ -1,4 +1,6 @@
 // What the node's parts share below the level of a service: bytes, signature, frames and time.
+#![tactic(auto)]
+
 pub mod bytes; // numbers in slices of bytes, low byte first
 pub mod crc; // the CRC-16 that signs
 pub mod frames; // the bytes of an event, and frames laid into the output
