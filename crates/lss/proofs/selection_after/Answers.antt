@@ -9,9 +9,7 @@ use lib.Dec.{eqb}
 use Rattle.model.specs.declared.State.{State}
 use Rattle.model.specs.Lss as Lss
 use Rattle.laws.proofs.Tests.{or_case}
-use borrow.Author.Rules.{rules}
-use Rattle.lss.proofs.selection_after.Statement.{statement}
-use Rattle.lss.proofs.selection_after.Tie as tie
+use Rattle.lss.proofs.selection_after.Goals as goal
 
 part_small : (n number : ℕ) (s : State) → Lss.matches n number s ≡ true → s.core.lss.progress ≤ 3 → n ≤ 3
 unfolding Lss.matches
@@ -19,23 +17,17 @@ part_small n number s h small =
     let p = s.core.lss.progress in
     or_case (eqb n 0) (eqb n p) ((and-eq-true_iff (eqb number (Lss.identity_part n s.identity)) (eqb n 0 || eqb n p)).0 h).1 (λ w. omega (arith, eqb-true n 0 w)) (λ w. omega (arith, eqb-true n p w))
 
-matches-requires : tie.Need-matches-requires
-matches-requires c κs = search rules
-
-returns : tie.Need-returns
+pub returns-then-n-eq3 : goal.returns-then-n-eq3
 unfolding Lss.selection_after
-returns c = rw (← c.before.before.matches.ensures, c.before.if1.true, eq-eqb _ _ c.if2.true)
+returns-then-n-eq3 c = rw (← c.matches.ensures, c.if-matches.true, eq-eqb _ _ c.if-n-eq3.true)
 
-add-t7 : tie.Need-overflow-add-t7
-add-t7 c = let a = c.before.before.before.args in omega (arith, part_small a.n a.number a.s (sym c.before.before.matches.ensures ∙ c.before.if1.true) c.before.before.before.requires)
+pub overflow_add-result : goal.overflow_add-result
+overflow_add-result c = let a = c.args in omega (arith, part_small a.n a.number a.s (sym c.matches.ensures ∙ c.if-matches.true) c.requires)
 
-returns-2 : tie.Need-returns-2
+pub returns-then-matches : goal.returns-then-matches
 unfolding Lss.selection_after
-returns-2 c = rw (← c.before.before.matches.ensures, c.before.if1.true, ne_eqb _ _ c.if2.false)
+returns-then-matches c = rw (← c.matches.ensures, c.if-matches.true, ne_eqb _ _ c.if-n-eq3.false)
 
-returns-3 : tie.Need-returns-3
+pub returns : goal.returns
 unfolding Lss.selection_after
-returns-3 c = rw (← c.before.matches.ensures, c.if1.false)
-
-pub selection-after-spec : {M : Type 1} → statement M
-selection-after-spec = tie.close (tie.spec matches-requires returns add-t7 returns-2 returns-3)
+returns c = rw (← c.matches.ensures, c.if-matches.false)
