@@ -1,14 +1,13 @@
 -- What an arm of a `match` on a parameter knows: the parameter is one of those that the arm names, by their numbers. So what the table has
 -- at each of these rows it has at the parameter. Assumes nothing.
 use mathlib.Core.Path.{◌≡◌, refl, sym, ap, ◌∙◌}
-use mathlib.Core.Logic.{inl, inr}
-use mathlib.Core.Bool.{Bool, false, false≢true}
+use mathlib.Core.Logic.{◌⊎◌, inl, inr, ⊎_elim}
+use mathlib.Core.Bool.{Bool, true, false, ◌||◌, false≢true}
 use mathlib.Core.List.{List, [], ◌∷◌}
 use Prim.Native.Nat.{ℕ}
 use lib.Dec.{eqb}
 use lib.ListN.{length, replicate, get_or}
-use borrow.Author.Tests.{eq-eqb}
-use types.Run.{OneOf}
+use borrow.Author.Tests.{eq-eqb, eqb-true}
 use denote.Enum.Declared.{tag_of}
 use Rattle.model.specs.contracts.Parameter.{the_type}
 use Rattle.model.specs.contracts.Kind as Kinds
@@ -46,24 +45,89 @@ numbered P6132 = refl
 numbered P51FE = refl
 numbered P51FF = refl
 
-at_number : {A : Type 0} (f : Parameter → A) (a : A) (ks : List ℕ) (x : ℕ) → OneOf ks x → column f ks ≡ replicate (length ks) a
-    → f (nth x) ≡ a
-at_number f a [] x h e = absurd h
-at_number f a (k ∷ []) x h e = ap (λ (n : ℕ). f (nth n)) h ∙ (cc)
-at_number f a (k ∷ l ∷ ks) x (inl h) e = ap (λ (n : ℕ). f (nth n)) h ∙ (cc)
-at_number f a (k ∷ l ∷ ks) x (inr h) e = at_number f a (l ∷ ks) x h (cc)
+-- what an arm knows: the parameter is one of those with these numbers
+abbrev pub Arm : List ℕ → Parameter → Type 0
+Arm [] p = ⊥
+Arm (k ∷ []) p = p ≡ nth k
+Arm (k ∷ l ∷ ks) p = (p ≡ nth k) ⊎ Arm (l ∷ ks) p
+
+-- and what the last arm knows: it is none of those
+abbrev pub NotAny : List ℕ → Parameter → Type 0
+NotAny [] p = Unit {0}
+NotAny (k ∷ ks) p = (p ≡ nth k → ⊥) × NotAny ks p
 
 -- what an arm cites: where the column has one value at the numbers that the arm names, it has that value at the parameter
-pub of_each : {A : Type 0} (f : Parameter → A) (a : A) (ks : List ℕ) (p : Parameter) → OneOf ks (tag_of the_type p)
-    → column f ks ≡ replicate (length ks) a → a ≡ f p
-of_each f a ks p h e = sym (at_number f a ks (tag_of the_type p) h e) ∙ ap f (numbered p)
+pub of_each : {A : Type 0} (f : Parameter → A) (a : A) (ks : List ℕ) (p : Parameter) → Arm ks p → column f ks ≡ replicate (length ks) a → a ≡ f p
+of_each f a [] p h e = absurd h
+of_each f a (k ∷ []) p h e = let x : f (nth k) ≡ a = (cc) in sym x ∙ ap f (sym h)
+of_each f a (k ∷ l ∷ ks) p (inl h) e = let x : f (nth k) ≡ a = (cc) in sym x ∙ ap f (sym h)
+of_each f a (k ∷ l ∷ ks) p (inr h) e = of_each f a (l ∷ ks) p h (cc)
+
+-- whether a number is in a list
+abbrev has : List ℕ → ℕ → Bool
+has [] x = false
+has (k ∷ ks) x = eqb x k || has ks x
+
+or_true : (a b : Bool) → (a || b) ≡ true → (a ≡ true) ⊎ (b ≡ true)
+or_true true b e = inl refl
+or_true false b e = inr e
+
+at_place : (p : Parameter) (k : ℕ) → eqb (tag_of the_type p) k ≡ true → p ≡ nth k
+at_place p k e = sym (numbered p) ∙ ap nth (eqb-true (tag_of the_type p) k e)
+
+found : (ks : List ℕ) (p : Parameter) → has ks (tag_of the_type p) ≡ true → Arm ks p
+found [] p e = false≢true e
+found (k ∷ []) p e = at_place p k (⊎_elim (λ h. h) (λ h. absurd (false≢true h)) (or_true (eqb (tag_of the_type p) k) false e))
+found (k ∷ l ∷ ks) p e =
+    ⊎_elim (λ h. inl (at_place p k h)) (λ h. inr (found (l ∷ ks) p h)) (or_true (eqb (tag_of the_type p) k) (has (l ∷ ks) (tag_of the_type p)) e)
+
+unnamed : (ks : List ℕ) (p : Parameter) → NotAny ks p → has ks (tag_of the_type p) ≡ true → ⊥
+unnamed [] p n e = false≢true e
+unnamed (k ∷ ks) p n e =
+    ⊎_elim (λ h. n.0 (at_place p k h)) (λ h. unnamed ks p n.1 h) (or_true (eqb (tag_of the_type p) k) (has ks (tag_of the_type p)) e)
+
+-- all numbers of the table
+abbrev pub rows : List ℕ
+rows = 0 ∷ 1 ∷ 2 ∷ 3 ∷ 4 ∷ 5 ∷ 6 ∷ 7 ∷ 8 ∷ 9 ∷ 10 ∷ 11 ∷ 12 ∷ 13 ∷ 14 ∷ 15 ∷ 16 ∷ []
+
+in_rows : (p : Parameter) → has rows (tag_of the_type p) ≡ true
+in_rows P1017 = refl
+in_rows P1301s1 = refl
+in_rows P1301s2 = refl
+in_rows P1301s3 = refl
+in_rows P1301s5 = refl
+in_rows P1301s6 = refl
+in_rows P1800s2 = refl
+in_rows P1800s5 = refl
+in_rows P13FE = refl
+in_rows P13FF = refl
+in_rows P2330 = refl
+in_rows P6121 = refl
+in_rows P6123 = refl
+in_rows P6124 = refl
+in_rows P6132 = refl
+in_rows P51FE = refl
+in_rows P51FF = refl
+
+every : (p : Parameter) → Arm rows p
+every p = found rows p (in_rows p)
+
+-- a number is in one list or the other
+abbrev pub either : List ℕ → List ℕ → Parameter → Bool
+either ks ls p = has ks (tag_of the_type p) || has ls (tag_of the_type p)
+
+-- what the last arm cites: the arms before it name ks, and the other numbers are ls
+pub others : (ks ls : List ℕ) → column (either ks ls) rows ≡ replicate (length rows) true → (p : Parameter) → NotAny ks p → Arm ls p
+others ks ls e p n =
+    ⊎_elim (λ h. absurd (unnamed ks p n h)) (λ h. found ls p h)
+    (or_true (has ks (tag_of the_type p)) (has ls (tag_of the_type p)) (sym (of_each (either ks ls) true rows p (every p) e)))
 
 -- one type and the same
 abbrev same_kind : Kind → Kind → Bool
 same_kind k l = eqb (tag_of Kinds.the_type k) (tag_of Kinds.the_type l)
 
 -- what an arm cites that is never reached: none of its parameters has the type
-pub no_such : (k : Kind) (ks : List ℕ) (p : Parameter) → OneOf ks (tag_of the_type p)
+pub no_such : (k : Kind) (ks : List ℕ) (p : Parameter) → Arm ks p
     → column (λ (q : Parameter). same_kind k (row q).kind) ks ≡ replicate (length ks) false → k ≡ (row p).kind → ⊥
 no_such k ks p h e same =
     false≢true (of_each (λ (q : Parameter). same_kind k (row q).kind) false ks p h e ∙ eq-eqb _ _ (ap (tag_of Kinds.the_type) same))
