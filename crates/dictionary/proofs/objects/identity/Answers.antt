@@ -1,0 +1,28 @@
+-- `dictionary::objects::identity` meets its contract: by the sub. Assumes nothing.
+use Rattle.model.specs.Dictionary.{find}
+use Rattle.dictionary.proofs.Lookup.{object, no_sub_lem}
+use Rattle.dictionary.proofs.objects.identity.Goals as goal
+
+pub returns-in-0 : goal.returns-in-0
+unfolding find
+returns-in-0 c = rw (c.highest.ensures, c.in-0.is)
+
+pub returns-in-1 : goal.returns-in-1
+unfolding find
+returns-in-1 c = rw c.in-1.is
+
+pub returns-in-2 : goal.returns-in-2
+unfolding find
+returns-in-2 c = rw c.in-2.is
+
+pub returns-in-3 : goal.returns-in-3
+unfolding find
+returns-in-3 c = rw c.in-3.is
+
+pub returns-in-4 : goal.returns-in-4
+unfolding find
+returns-in-4 c = rw c.in-4.is
+
+pub returns-in_default : goal.returns-in_default
+unfolding find
+returns-in_default c = no_sub_lem (object 0x1018) c.args.sub c.in_default.in_default-own.rest
