@@ -17,9 +17,7 @@ use Rattle.model.specs.Parts.{capped, error_register, stopped}
 use Rattle.model.specs.Time.{differ, emcy_due, emcy_frame}
 use Rattle.model.specs.Step.{reported_after}
 use Rattle.output.specs.Sent.{IsReported}
-use borrow.Author.Rules.{rules}
-use Rattle.output.proofs.emcy_after.Statement.{statement}
-use Rattle.output.proofs.emcy_after.Tie as tie
+use Rattle.output.proofs.emcy_after.Goals as goal
 
 flag_is : (due : Bool) (t : State) → cond due (capped t) t.core.reported ≡ reported_after due t
 flag_is true t = refl
@@ -36,33 +34,6 @@ unfolding emcy_due emcy_frame error_register
 judged-by t a c p i due b f ea ec ep ei ed ef eb =
     record { emcy = rw (ef, ed, ei, ep, ← ea, ← ec); reported = rw (eb, ed, ei, ep, ← ea, ← ec, flag_is (emcy_due t) t) }
 
-to-pv-requires : tie.Need-to-pv-requires
-to-pv-requires c κs = search rules
-
-integer-pv-requires : tie.Need-integer-pv-requires
-integer-pv-requires c κs = search rules
-
-emcy-due-requires : tie.Need-emcy-due-requires
-emcy-due-requires c κs = search rules
-
-emcy-frame-requires : tie.Need-emcy-frame-requires
-emcy-frame-requires c κs = search rules
-
-reported-after-requires : tie.Need-reported-after-requires
-reported-after-requires c κs = search rules
-
-returns : tie.Need-returns
+pub returns : goal.returns
 returns c =
-    let c3 = c.before.before.before in
-    λ t a k. judged-by t _ _ _ _ _ _ _ a k c3.before.to-pv.ensures c3.integer-pv.ensures c.before.before.emcy-due.ensures c.before.emcy-frame.ensures c.reported-after.ensures
-
-pub emcy-after-spec : {M : Type 1} → statement M
-emcy-after-spec =
-    tie.close
-    (tie.spec
-    to-pv-requires
-    integer-pv-requires
-    emcy-due-requires
-    emcy-frame-requires
-    reported-after-requires
-    returns)
+    λ t a k. judged-by t _ _ _ _ _ _ _ a k c.to_pv.ensures c.integer_pv-integer.ensures c.emcy_due-send.ensures c.emcy_frame-frame.ensures c.reported_after-reported.ensures
