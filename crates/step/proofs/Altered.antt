@@ -2,10 +2,9 @@
 use Prim.Native.Nat.{ℕ}
 use mathlib.Core.Path.{◌≡◌, refl}
 use mathlib.Core.Bool.{false, false≢true}
-use mathlib.Core.List.{List, [], ◌∷◌}
-use types.Run.{OneOf, miss}
-use denote.Enum.Declared.{tag_of}
-use Rattle.model.specs.contracts.Change.{the_type}
+use Rattle.model.specs.declared.Groups.{Groups}
+use Rattle.model.specs.declared.Parameter.{Parameter}
+use Rattle.model.specs.declared.Value.{Value}
 use Rattle.model.specs.declared.Change.{Change}
 use Rattle.model.specs.declared.Change.TheVariants.{Keep, Write, Save, TakeOut, Load, SavePending}
 use Rattle.model.specs.declared.LssRequest.{LssRequest}
@@ -21,16 +20,13 @@ use Rattle.model.specs.Step.{change_of}
 use Rattle.laws.proofs.Tests.{cond_case}
 use Rattle.step.specs.Asked.{alters_of}
 
-abbrev pub rest : List ℕ
-rest = 0 ∷ 2 ∷ 5 ∷ []
-
-pub unaltered : (c : Change) → OneOf rest (tag_of the_type c) → false ≡ alters_of c
-unaltered Keep h = refl
-unaltered (Write p x) h = absurd (miss rest 1 tt h)
-unaltered (Save gs) h = refl
-unaltered (TakeOut gs) h = absurd (miss rest 3 tt h)
-unaltered (Load gs id) h = absurd (miss rest 4 tt h)
-unaltered SavePending h = refl
+pub unaltered : (c : Change) → ((x : Parameter) → (x' : Value) → c ≡ Write x x' → ⊥) → ((x : Groups) → c ≡ TakeOut x → ⊥) → ((x : Groups) → (x' : ℕ) → c ≡ Load x x' → ⊥) → false ≡ alters_of c
+unaltered Keep _ _ _ = refl
+unaltered (Write p x) n1 _ _ = absurd (n1 p x refl)
+unaltered (Save gs) _ _ _ = refl
+unaltered (TakeOut gs) _ n2 _ = absurd (n2 gs refl)
+unaltered (Load gs id) _ _ n3 = absurd (n3 gs id refl)
+unaltered SavePending _ _ _ = refl
 
 -- they are as they were
 pub kept : (c : Change) (k : Settings) (sv : Saved) → false ≡ alters_of c → k ≡ applied c k sv
