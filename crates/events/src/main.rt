@@ -8,9 +8,10 @@ ghost use Rattle.model.specs.Program as Text;
 ghost use Rattle.program.specs.Turns.{calling};
 ghost use Rattle.events.specs.Reads.{goes, Roomy, Went, Took, Whole, Ended, Done};
 
-use libc::{STDIN_FILENO, STDOUT_FILENO};
 use model::State;
 use program::{begin, call};
+use std::io;
+use std::io::{Read, Write};
 use text::end_line;
 
 // What is kept from record to record: the node, the counts, how much of the text is waiting, whether there is more to read, and whether the output
@@ -27,42 +28,42 @@ struct Run {
 
 // Standard output takes all the text that waits, once there is little room left, and not where it was found closed; answers whether it did.
 // `text` is there for what is required: that nothing else is handed over.
-fn hand_over(r: Run, text: &[u8], out: &[u8]) -> bool
+fn hand_over(rt: &HostRuntime, r: Run, text: &[u8], out: &[u8]) -> bool
     requires { (16216 < r.fill) × (out.now ≡ goes (take r.fill text.now)) }
     ensures { result ≡ true → r.«open» ≡ true }
 {
-    r.open && io::write_all(STDOUT_FILENO, out)
+    r.open && io::writer(rt).write_all(out).is_ok()
 }
 
 // The same at the end: what still waits, and the last line behind it.
-fn hand_over_last(r: Run, text: &[u8], out: &[u8]) -> bool
+fn hand_over_last(rt: &HostRuntime, r: Run, text: &[u8], out: &[u8]) -> bool
     requires { out.now ≡ take r.fill text.now ++ Text.end_line r.records r.frames }
 {
-    r.open && io::write_all(STDOUT_FILENO, out)
+    r.open && io::writer(rt).write_all(out).is_ok()
 }
 
 // Room for the next lines: where there is little left, the text so far is handed over. Nothing is written to an output that was
 // found closed, so that no text is missing from the middle.
-fn with_room(r: Run, text: &[u8]) -> Run
+fn with_room(rt: &HostRuntime, r: Run, text: &[u8]) -> Run
     requires { r.fill ≤ length text.now }
     ensures { Roomy r result }
 {
     let mut next = r;
     let fill = r.fill;
     if 16216 < fill {
-        next.open = hand_over(r, text, &text[..fill]);
+        next.open = hand_over(rt, r, text, &text[..fill]);
         next.fill = 0;
     }
     next
 }
 
 // One record.
-fn one(r: Run, bytes: &[u8], text: &mut [u8], store: &mut [u8]) -> Run
+fn one(rt: &HostRuntime, r: Run, bytes: &[u8], text: &mut [u8], store: &mut [u8]) -> Run
     requires { (length text.old ≡ 16384) × (r.fill ≤ 16384) }
     ensures went { Went (calling bytes.now ∷ []) r text.old store.old text.new store.new result }
     ensures more_value { result.more ≡ r.more }
 {
-    let ready = with_room(r, text);
+    let ready = with_room(rt, r, text);
     let number = std::num::wrapping_add_u64(ready.records, 1);
     let t = call(bytes, number, ready.state, text, ready.fill, store);
     let state = t.state;
@@ -77,7 +78,7 @@ fn one(r: Run, bytes: &[u8], text: &mut [u8], store: &mut [u8]) -> Run
 }
 
 // The record at i, which is short where fewer than 13 bytes are left.
-fn record_at(r: Run, s: &[u8], i: usize, text: &mut [u8], store: &mut [u8]) -> Run
+fn record_at(rt: &HostRuntime, r: Run, s: &[u8], i: usize, text: &mut [u8], store: &mut [u8]) -> Run
     requires { (length text.old ≡ 16384) × (r.fill ≤ 16384) }
     ensures went { Went (Text.records 1 (drop i s.now)) r text.old store.old text.new store.new result }
     ensures more_value { result.more ≡ r.more }
@@ -86,14 +87,14 @@ fn record_at(r: Run, s: &[u8], i: usize, text: &mut [u8], store: &mut [u8]) -> R
         return r;
     }
     if s.len() - i < 13 {
-        return one(r, &s[i..], text, store);
+        return one(rt, r, &s[i..], text, store);
     }
     let end = i + 13;
-    one(r, &s[i..end], text, store)
+    one(rt, r, &s[i..end], text, store)
 }
 
 // All the records of a buffer.
-fn records(r: Run, s: &[u8], text: &mut [u8], store: &mut [u8]) -> Run
+fn records(rt: &HostRuntime, r: Run, s: &[u8], text: &mut [u8], store: &mut [u8]) -> Run
     requires { (length text.old ≡ 16384) × (r.fill ≤ 16384) × (length s.now ≤ 13312) }
     ensures went { Went (Text.records (length s.now) s.now) r text.old store.old text.new store.new result }
     ensures more_value { result.more ≡ r.more }
@@ -101,66 +102,82 @@ fn records(r: Run, s: &[u8], text: &mut [u8], store: &mut [u8]) -> Run
     let mut now = r;
     let mut k = 0;
     while k < 1024 {
-        now = record_at(now, s, 13 * k, text, store);
+        now = record_at(rt, now, s, 13 * k, text, store);
         k += 1;
     }
     now
 }
 
 // A buffer of what was read. Where it is not full, the input has ended; where the output takes no more text, so has the run.
-fn taken(r: Run, s: &[u8], text: &mut [u8], store: &mut [u8]) -> Run
+fn taken(rt: &HostRuntime, r: Run, s: &[u8], text: &mut [u8], store: &mut [u8]) -> Run
     requires { (length text.old ≡ 16384) × (r.fill ≤ 16384) × (length s.now ≤ 13312) }
     ensures went { Went (Text.records (length s.now) s.now) r text.old store.old text.new store.new result }
     ensures more_value { result.more ≡ (if result.«open» then (length s.now == 13312) else false) }
 {
-    let mut after = records(r, s, text, store);
+    let mut after = records(rt, r, s, text, store);
     after.more = after.open && s.len() == 13312;
     after
 }
 
+// Standard input fills the buffer from its start on, until it is full, the input ends or a read fails; how many bytes it has then.
+fn read_full(rt: &HostRuntime, buf: &mut [u8]) -> usize
+    ensures { result ≤ length buf.new }
+{
+    let mut input = rt.stdin();
+    let mut done = 0;
+    while done < buf.len() {
+        let n = input.read(&mut buf[done..]).unwrap_or(0);
+        if n == 0 {
+            break;
+        }
+        done += n;
+    }
+    done
+}
+
 // One buffer of 1,024 records.
-fn buffer(r: Run, text: &mut [u8], store: &mut [u8]) -> Run
+fn buffer(rt: &HostRuntime, r: Run, text: &mut [u8], store: &mut [u8]) -> Run
     requires { (length text.old ≡ 16384) × (r.fill ≤ 16384) }
     ensures { Took r text.old store.old text.new store.new result }
 {
     let mut input = [0u8; 13312];
-    let n = io::read_full(STDIN_FILENO, &mut input);
-    taken(r, &input[..n], text, store)
+    let n = read_full(rt, &mut input);
+    taken(rt, r, &input[..n], text, store)
 }
 
 // The whole input. Nothing says that it ends, so the turns are counted down from a number that no run uses up.
-fn input(r: Run, text: &mut [u8], store: &mut [u8]) -> Run
+fn input(rt: &HostRuntime, r: Run, text: &mut [u8], store: &mut [u8]) -> Run
     requires { (length text.old ≡ 16384) × (r.fill ≤ 16384) }
     ensures { Took r text.old store.old text.new store.new result }
 {
     let mut now = r;
     let mut turns = u64::MAX;
     while 0 < turns && now.more {
-        now = buffer(now, text, store);
+        now = buffer(rt, now, text, store);
         turns -= 1;
     }
     now
 }
 
 // The text up to the end of the last line.
-fn last(r: Run, text: &[u8], end: usize)
+fn last(rt: &HostRuntime, r: Run, text: &[u8], end: usize)
     requires { (end ≤ length text.now) × (take end text.now ≡ take r.fill text.now ++ Text.end_line r.records r.frames) }
 {
-    hand_over_last(r, text, &text[..end]);
+    hand_over_last(rt, r, text, &text[..end]);
 }
 
 // The last line.
-fn close(r: Run, text: &mut [u8])
+fn close(rt: &HostRuntime, r: Run, text: &mut [u8])
     requires { (length text.old ≡ 16384) × (r.fill ≤ 16384) }
     ensures { Ended r text.old text.new }
 {
-    let ready = with_room(r, text);
+    let ready = with_room(rt, r, text);
     let end = end_line(text, ready.fill, ready.records, ready.frames);
-    last(ready, text, end);
+    last(rt, ready, text, end);
 }
 
 // The power-on and the whole input, from a store of zeros.
-fn whole_run(text: &mut [u8], store: &mut [u8]) -> Run
+fn whole_run(rt: &HostRuntime, text: &mut [u8], store: &mut [u8]) -> Run
     requires { (length text.old ≡ 16384) × (store.old ≡ zero_store) }
     ensures { Whole text.new result }
 {
@@ -174,21 +191,21 @@ fn whole_run(text: &mut [u8], store: &mut [u8]) -> Run
         more: true,
         open: true,
     };
-    input(start, text, store)
+    input(rt, start, text, store)
 }
 
 // The whole run, and then the last line.
-fn to_end(text: &mut [u8], store: &mut [u8])
+fn to_end(rt: &HostRuntime, text: &mut [u8], store: &mut [u8])
     requires { (length text.old ≡ 16384) × (store.old ≡ zero_store) }
     ensures { Done text.new }
 {
-    let end = whole_run(text, store);
-    close(end, text);
+    let end = whole_run(rt, text, store);
+    close(rt, end, text);
 }
 
 // A store of zeros, the power-on, the records, the last line.
-fn main() {
+fn main(rt: HostRuntime) {
     let mut text = [0u8; 16384];
     let mut store = [0u8; 64];
-    to_end(&mut text, &mut store);
+    to_end(&rt, &mut text, &mut store);
 }
