@@ -19,7 +19,7 @@
  * rounding to nearest, no flushing of subnormals to zero. Nothing else is owed: any bytes, any
  * lengths and any state are answered.
  *
- * The archive is x86-64 code: rt staticlib port writes target/staticlib/libport.a. */
+ * The archive is x86-64 code: rt lib, in crates/port, writes out/libport.a there. */
 #ifndef SEUMHWARI_H
 #define SEUMHWARI_H
 

@@ -1,4 +1,4 @@
-# C programs with the Rattle kit alone: its compiler, its linker, its C library and, off x86-64, its emulator. To be sourced.
+# C programs with the Rattle kit alone: its compiler, its linker and its C library. To be sourced.
 # The kit brings no C headers; tests/c/headers has the few declarations that our programs use.
 
 kit_root=$(cd "$(dirname "${BASH_SOURCE[0]}")/.." && pwd)
@@ -9,7 +9,7 @@ kit_find() {
         echo "${0##*/}: the Rattle kit is missing: its command 'rt' is not on the PATH" >&2
         exit 1
     fi
-    kit_tools=$(dirname "$(dirname "$(rt doc)")")/on/$(uname -m)
+    kit_tools=$(dirname "$(rt doc)")
 }
 
 # kit_cc PROGRAM FILE... : compiles C files with the flags in kit_flags, and links them and archives to a program.
@@ -31,16 +31,15 @@ kit_cc() {
 
 # kit_run PROGRAM WORD... : runs it with the kit's C library.
 kit_run() {
-    local lib=$kit_tools/toolchain/lib emulator=()
-    [ "$(uname -m)" = x86_64 ] || emulator=("$kit_tools/toolchain/bin/qemu-x86_64")
-    "${emulator[@]}" "$lib/ld-linux-x86-64.so.2" --library-path "$lib" "$@"
+    local lib=$kit_tools/toolchain/lib
+    "$lib/ld-linux-x86-64.so.2" --library-path "$lib" "$@"
 }
 
 # kit_archive : the path of the proved node's archive, which is proved and built where it is missing or a source is newer.
 kit_archive() {
-    local archive=$kit_root/target/staticlib/libport.a log
-    if [ ! -e "$archive" ] || [ -n "$(find "$kit_root/crates" "$kit_root/crates.txt" -newer "$archive" -print -quit)" ]; then
-        if ! log=$(cd "$kit_root" && rt staticlib port 2>&1); then
+    local archive=$kit_root/crates/port/out/libport.a log
+    if [ ! -e "$archive" ] || [ -n "$(find "$kit_root/crates" "$kit_root/crates.txt" -path '*/out' -prune -o -newer "$archive" -type f -print -quit)" ]; then
+        if ! log=$(cd "$kit_root/crates/port" && rt lib 2>&1); then
             printf '%s\n' "$log" | tail -n 20 >&2
             echo "${0##*/}: the archive could not be built" >&2
             return 1
