@@ -5,7 +5,7 @@ import os
 import re
 
 CRATE = os.path.join(os.path.dirname(os.path.abspath(__file__)), '..', 'crates', 'model')
-IEEE = ['add', 'sub', 'mul', 'div', 'ofInt', 'ofBits', 'toBits']
+IEEE = ['add', 'sub', 'mul', 'div', 'of_int', 'of_bits', 'to_bits']
 DEFINED = re.compile(r'^unfoldable pub (\S+) :|^unfoldable mutual\n(?:  --.*\n)*  pub (\S+) :', re.M)
 
 
@@ -18,7 +18,7 @@ uses, names = [], list(IEEE)
 for module in re.findall(r'^pub mod (\S+)', read('specs', 'Lib.antt'), re.M):
     found = [a or b for a, b in DEFINED.findall(read('specs', module + '.antt'))]
     if found:
-        uses.append('use Rattle·model·specs.specs.%s.{%s}' % (module, ', '.join(found)))
+        uses.append('use Rattle.model.specs.%s.{%s}' % (module, ', '.join(found)))
     names += found
 twice = sorted({name for name in names if names.count(name) > 1})
 if twice:
