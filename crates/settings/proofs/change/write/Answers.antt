@@ -6,15 +6,4 @@ pub put-requires : goal.put-requires
 put-requires c = c.requires
 
 pub returns : goal.returns
-returns c =
-    rw (
-      c.revoke.ensures,
-      c.put.ensures,
-      c.revokes_a.ensures,
-      c.revokes_c.ensures,
-      c.number_of-2.ensures,
-      c.value_of.ensures,
-      c.number_of.ensures,
-    )
-    (in_two_steps c.args.p
-    c.args.v c.args.k)
+returns c = cc (in_two_steps c.args.p c.args.v c.args.k)
