@@ -9,27 +9,11 @@ pub returns-then-not-due : goal.returns-then-not-due
 returns-then-not-due c =
     (laid_as (start _) (quiet c.args.s c.args.due c.requires.1.0 c.if-not-due.true), omega arith)
 
-pub srdo_second-second-requires : goal.srdo_second-second-requires
-srdo_second-second-requires c = c.requires.0.second
-
 pub send_four-requires : goal.send_four-requires
 send_four-requires c =
     c.requires.1.1
 
 pub returns : goal.returns
 returns c =
-    let sent = c.send_four.ensures in (
-      laid_as sent.0 (
-          rw (
-            c.when.ensures,
-            c.when-2.ensures,
-            c.when-3.ensures,
-            c.when-4.ensures,
-            c.srdo_second-second.ensures,
-            c.srdo_first-first.ensures,
-            c.tpdo_frame-tpdo.ensures,
-            c.heartbeat_frame-heartbeat.ensures,
-          ) (sent_at_tick c.args.s c.args.due _ c.requires.1.0 c.reading_of-reading.ensures)
-          ),
-      sent.1,
-    )
+    let sent = c.send_four.ensures in
+    (laid_as sent.0 (cc (sent_at_tick c.args.s c.args.due _ c.requires.1.0 c.reading_of-reading.ensures)), sent.1)
