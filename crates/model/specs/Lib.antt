@@ -4,7 +4,7 @@
 -- in one for each case of an argument. `f x y` is f of x and y.
 --   cond t x y        x where the test t holds, else y          eqb leb ltb    =, ≤, < as tests          && || not    and, or, not
 --   first_hit ((t ⇒ x) ∷ ..) y    x of the first test t that holds, else y      within a b x    a ≤ x ≤ b    x / y, x % y    quotient, remainder
---   x ∷ y ∷ []        the list of x and y                       xs ++ ys       one list and then another     lowBytes n x    x as n bytes, low first
+--   x ∷ y ∷ []        the list of x and y                       xs ++ ys       one list and then another     low_bytes n x   x as n bytes, low first
 --   s.part           a part of s; s.a.b is a part of that    λ x. e         e as a function of x          let x = e in f
 -- `abbrev` and `unfoldable` tell the prover when to open a definition, and mean nothing to the reader.
 

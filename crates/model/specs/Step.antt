@@ -1,8 +1,8 @@
 -- One event, the power-on, and the answers of both calls. Document 01, "Events, frames and the answer". Assumes nothing.
 --
---   event bytes --service--> Service --changeOf--> Change --applied, stored--> the saved parameters, the store
+--   event bytes --service--> Service --change_of-> Change --applied, stored--> the saved parameters, the store
 --                               |                    |
---                               +-- reply, heard ----+--coreAfter, bootUp----> the rest of the state, the frames; EMCY comes last
+--                               +-- reply, heard ----+--core_after, boot_up--> the rest of the state, the frames; EMCY comes last
 use Rattle.std.specs.Prelude.{ℕ, ◌≡◌, Bool, true, false, cond, not, ◌&&◌, ◌||◌, List, [], ◌∷◌, ◌++◌, eqb, ltb, length, replicate}
 use Rattle.model.specs.declared.Service.{Service}
 use Rattle.model.specs.declared.Service.TheVariants.{Nothing, Tick, Sample, Nmt, Sync, Remote, Sdo, Lss}

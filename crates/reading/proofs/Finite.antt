@@ -37,7 +37,7 @@ inside_bounded (fin s m e) h =
 pub inside_no_nan : (x : Float) → judge_real x ≡ Inside → T (not (is_nan x))
 inside_no_nan x h = bounded_no_nan x 20 (inside_bounded x h)
 
--- the bits of what 32 bits stand for are those bits. (The other way round, at any f32, it is lib.Ieee.Bits.ofBits-toBits)
+-- the bits of what 32 bits stand for are those bits. (The other way round, at any f32, it is lib.Ieee.Bits.of_bits-to_bits)
 pub bits_back : (b : ℕ) → b < 2 ^ 32 → judge_real (of_bits binary32 b) ≡ Inside → to_bits binary32 (of_bits binary32 b) ≡ b
 bits_back b l h = to_bits-of_bits binary32 b l (inside_no_nan (of_bits binary32 b) h)
 

@@ -1,4 +1,4 @@
--- The changes that leave the parameters, by their numbers. Assumes nothing.
+-- The changes that leave the parameters: those that are none of the three others. Assumes nothing.
 use Prim.Native.Nat.{ℕ}
 use mathlib.Core.Path.{◌≡◌, refl}
 use mathlib.Core.Bool.{false, false≢true}

@@ -1,5 +1,4 @@
 -- `reading::integer_pv` meets its contract: by PV's exponent, from what `power`, `rounded` and `limit` ensure. Assumes nothing.
--- what owning a `Pv` tells: the format holds its float
 use mathlib.Core.Path.{sym, ap, ◌∙◌, subst}
 use native.Mathlib.Omega.{arith}
 use lib.Dec.{T, lit≤}
@@ -16,6 +15,7 @@ returns-then-x c = ap (λ (x : Float). integer_at x c.args.digits) (sym (is_nan_
 pub float_to_bits-bits : goal.float_to_bits-bits
 float_to_bits-bits c = no_nan _ c.if-x.false
 
+-- that a `Pv` is one tells that the format holds its float: `well_formed`, here and below
 pub returns-then-exponent-ge160 : goal.returns-then-exponent-ge160
 returns-then-exponent-ge160 c = c.limit.ensures ∙ high _ _ (subst T (sym c.well_formed.0.1.1.0.1) tt) (no_nan _ c.if-x.false) c.if-exponent-ge160.true
 

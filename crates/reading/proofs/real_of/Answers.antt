@@ -1,10 +1,10 @@
 -- `reading::real_of` meets its contract: there is one NaN, which 0.0 / 0.0 gives and each NaN's bits stand for. Assumes nothing.
--- 0.0 / 0.0, with 0.0 by its bits
 use mathlib.Core.Path.{◌≡◌, refl, ◌∙◌}
 use lib.Ieee.{nan, binary32, of_bits, div}
 use Rattle.reading.proofs.Nans.{nan_of_bits, no_nan_bits}
 use Rattle.reading.proofs.real_of.Goals as goal
 
+-- 0.0 / 0.0, with 0.0 by its bits
 quotient : div binary32 (of_bits binary32 0) (of_bits binary32 0) ≡ nan
 unfolding of_bits div
 quotient = refl

@@ -1,5 +1,4 @@
 -- `rules::refusal` meets its contract: each return by the tests before it; those of what is lent are two in one. Assumes nothing.
--- the refusals 4, 5 and 6
 use mathlib.Core.Path.{◌≡◌, refl}
 use mathlib.Core.Bool.{Bool, true, false, not, cond}
 use Prim.Native.Nat.{ℕ}
@@ -12,6 +11,7 @@ use Rattle.model.specs.Rules.{rules}
 use Rattle.model.specs.Step as Step
 use Rattle.rules.proofs.refusal.Goals as goal
 
+-- the refusals 4, 5 and 6
 abbrev last : ℕ → ℕ → State → ℕ
 last out st s = cond (ltb out 48) 4 (cond (not (eqb st 64)) 5 (cond (not (rules s)) 6 0))
 

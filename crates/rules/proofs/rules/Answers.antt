@@ -1,5 +1,4 @@
 -- `rules::rules` meets its contract: the order of a conjunction does not matter, and the first part that fails decides it. The ranges give the digits that the reading needs. Assumes nothing.
--- the rules as they are asked: four, then one by one
 use mathlib.Core.Path.{◌≡◌, refl, sym, ap, ◌∙◌}
 use mathlib.Core.Bool.{Bool, true, false, ◌&&◌}
 use Rattle.model.specs.declared.State.{State}
@@ -8,6 +7,7 @@ use Rattle.laws.proofs.Tests.{and_r, and_false}
 use Rattle.rules.proofs.Fits.{few_digits}
 use Rattle.rules.proofs.rules.Goals as goal
 
+-- the rules as they are asked: four, then one by one
 abbrev first : State → Bool
 first s = Rules.rule_ids s && (Rules.rule_bits s && (Rules.rule_nmt s && Rules.rule_ranges s))
 

@@ -1,5 +1,4 @@
 -- `service::frame_service` meets its contract: the fields that the calls read stand for the event, and each return goes by the tests that led there. Assumes nothing.
--- the bounds of an SDO request's CAN-ID, out of the test of ID and length
 use mathlib.Core.Path.{◌≡◌}
 use mathlib.Core.Bool.{true, ◌&&◌, and-eq-true_iff}
 use Prim.Native.Nat.{ℕ, ◌≤◌}
@@ -10,6 +9,7 @@ use Rattle.model.specs.Service as Asked
 use Rattle.service.proofs.Tests.{spans}
 use Rattle.service.proofs.frame_service.Goals as goal
 
+-- the bounds of an SDO request's CAN-ID, out of the test of ID and length
 in_span : (id len : ℕ) → (leb 0x601 id && leb id 0x67f) && eqb len 8 ≡ true → (0x601 ≤ id) × (id ≤ 0x67f)
 in_span id len h = spans 0x601 0x67f id ((and-eq-true_iff (leb 0x601 id && leb id 0x67f) (eqb len 8)).0 h).0
 

@@ -1,9 +1,9 @@
 -- `crc::byte_in` meets its contract. The invariant: the shifts that are left, from the register as it is, give the definition's value. Assumes nothing.
--- a turn: one shift less is left
 use Rattle.std.proofs.Common.{◌≡◌, ℕ, zero, suc, ◌+◌, ◌-◌, ◌<◌, ◌≤◌, ap, arith, rules}
 use Rattle.model.specs.Signature.{shifted, shifted_by, byte_in}
 use Rattle.wire.proofs.crc.byte_in.Goals as goal
 
+-- a turn: one shift less is left
 turn : (i r s v : ℕ) → i < 8 → s ≡ shifted r → shifted_by (8 - i) r ≡ v → shifted_by (8 - (i + 1)) s ≡ v
 unfolding shifted_by
 turn i r s v h e k = let left : 8 - i ≡ suc (8 - (i + 1)) = omega arith in rw e (rw left at k)

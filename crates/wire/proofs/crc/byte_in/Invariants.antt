@@ -1,5 +1,4 @@
 -- `crc::byte_in` meets its contract. The invariant: the shifts that are left, from the register as it is, give the definition's value. Assumes nothing.
--- a turn: one shift less is left
 use Rattle.std.proofs.Common.{◌≡◌, ◌-◌, ◌≤◌}
 use Rattle.model.specs.Signature.{shifted_by, byte_in}
 use Rattle.wire.proofs.crc.byte_in.Given as goal

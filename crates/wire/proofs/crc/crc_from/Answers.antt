@@ -1,9 +1,9 @@
 -- `crc::crc_from` meets its contract. The invariant: the bytes that are left, from the register as it is, give what all of them give from the start. Assumes nothing.
--- a turn: the byte at i goes in, and one less is left
 use Rattle.std.proofs.Common.{◌≡◌, ℕ, ◌+◌, ◌<◌, ◌≤◌, List, length, get_or, drop, add-one, drop_of_length-le, drop-cons, rules}
 use Rattle.model.specs.Signature.{byte_in, crc_from}
 use Rattle.wire.proofs.crc.crc_from.Goals as goal
 
+-- a turn: the byte at i goes in, and one less is left
 turn : (l : List ℕ) (i c d v : ℕ) → i < length l → d ≡ byte_in c (get_or l i 0) → crc_from c (drop i l) ≡ v → crc_from d (drop (i + 1) l) ≡ v
 unfolding crc_from
 turn l i c d v h e k = rw (add-one, e) (rw (drop-cons l i 0 h) at k)

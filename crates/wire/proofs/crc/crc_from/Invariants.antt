@@ -1,5 +1,4 @@
 -- `crc::crc_from` meets its contract. The invariant: the bytes that are left, from the register as it is, give what all of them give from the start. Assumes nothing.
--- a turn: the byte at i goes in, and one less is left
 use Rattle.std.proofs.Common.{◌≡◌, ◌-◌, ◌≤◌, length, drop}
 use Rattle.model.specs.Signature.{crc_from}
 use Rattle.wire.proofs.crc.crc_from.Given as goal
