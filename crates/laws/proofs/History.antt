@@ -87,26 +87,26 @@ module _ (sv : Saved) (c : Call) (w : World) (h : Told sv w) (e : line_refusal c
   abbrev v : Service
   v = service c.event
 
-  abbrev made-change : Change
-  made-change = change_of v w.state (read w.store)
+  abbrev made_change : Change
+  made_change = change_of v w.state (read w.store)
 
   abbrev next : World
   next = after c (proved.serves c.event w.state w.store) w.log
 
-  allowed : Allowed made-change w.state
+  allowed : Allowed made_change w.state
   allowed = change_allowed w.state w.store h.keeps v
 
   next_agrees : Agrees sv next.state.settings (id_of next.state) next.store (deeds sv next.log)
   unfolding step deeds deed
-  next_agrees = rw (e, told_deed sv c.event w h) (served_agrees sv w.state w.store (deeds sv w.log) made-change v allowed h.agrees)
+  next_agrees = rw (e, told_deed sv c.event w h) (served_agrees sv w.state w.store (deeds sv w.log) made_change v allowed h.agrees)
 
   next_places : addresses_of next.state.core (read next.store) ≡ addresses sv next.log
   unfolding step addresses deed line_pending
   next_places =
-      let o = served made-change v w.state w.store in
+      let o = served made_change v w.state w.store in
       let p : service_pending v o.sent w.state.core.pending ≡ (heard v w.state).pending = served_pending v w.state w.store h.keeps in
       rw (e, told_deed sv c.event w h, ← h.places, p)
-      (served_addresses made-change v w.state w.store (pair_after_lem sv w.state w.store (deeds sv w.log) h.agrees made-change allowed))
+      (served_addresses made_change v w.state w.store (pair_after_lem sv w.state w.store (deeds sv w.log) h.agrees made_change allowed))
 
 -- a refused one
 module _ (sv : Saved) (c : Call) (w : World) (h : Told sv w) (e : eqb (line_refusal c.event c.room) done ≡ false) where

@@ -144,29 +144,29 @@ module _ (n c a : List ℕ) (fits : length n + length c + length a ≤ 56) where
       (rw (← (append_assoc n c _)) (part_mid (n ++ c) a _ (length n + length c) (length a) (length-append n c) refl))
 
   module _ (n-size : Sized 2 n) (c-size : Sized 21 c) (a-size : Sized 17 a) where
-    length-n : length_at 60 2 (build n c a) ≡ length n
+    length_n : length_at 60 2 (build n c a) ≡ length n
     unfolding length_at
-    length-n = rw place_n (length_back n 2 0 (omega arith) (omega arith) n-size)
+    length_n = rw place_n (length_back n 2 0 (omega arith) (omega arith) n-size)
 
-    length-c : length_at 56 21 (build n c a) ≡ length c
+    length_c : length_at 56 21 (build n c a) ≡ length c
     unfolding length_at
-    length-c = rw place_c (length_back c 21 (length n) (omega arith) (omega arith) c-size)
+    length_c = rw place_c (length_back c 21 (length n) (omega arith) (omega arith) c-size)
 
-    length-a : length_at 58 17 (build n c a) ≡ length a
+    length_a : length_at 58 17 (build n c a) ≡ length a
     unfolding length_at
-    length-a = rw place_a (length_back a 17 (length n + length c) (omega arith) (omega arith) a-size)
+    length_a = rw place_a (length_back a 17 (length n + length c) (omega arith) (omega arith) a-size)
 
-    n-back : n_in (build n c a) ≡ n
+    n_back : n_in (build n c a) ≡ n
     unfolding n_in
-    n-back = rw length-n part_n
+    n_back = rw length_n part_n
 
-    c-back : c_in (build n c a) ≡ c
+    c_back : c_in (build n c a) ≡ c
     unfolding c_in
-    c-back = rw (length-n, length-c) part_c
+    c_back = rw (length_n, length_c) part_c
 
     a_back : a_in (build n c a) ≡ a
     unfolding a_in
-    a_back = rw (length-n, length-c, length-a) part_a
+    a_back = rw (length_n, length_c, length_a) part_a
 
 -- accepted records fit the image
 fits_in : (n c a : List ℕ) → Accepted n c a → length n + length c + length a ≤ 56
@@ -180,7 +180,7 @@ read_build n c a h =
     let sc = sized_of C c h.c_ok in
     let sa = sized_of A a h.a_ok in
     let f = fits_in n c a h in
-    rw (n-back n c a f sn sc sa, c-back n c a f sn sc sa, a_back n c a f sn sc sa, eq_same (build n c a), h.n_ok, h.c_ok, h.a_ok) refl
+    rw (n_back n c a f sn sc sa, c_back n c a f sn sc sa, a_back n c a f sn sc sa, eq_same (build n c a), h.n_ok, h.c_ok, h.a_ok) refl
 
 -- and their image is 64 bytes
 pub built_size : (n c a : List ℕ) → Accepted n c a → length (build n c a) ≡ 64

@@ -208,11 +208,11 @@ pub one_for_values : (x y : List ℕ) → Bytes x → Bytes y → is_good x ≡ 
     → held_id_in (read x) ≡ held_id_in (read y) → ((q : Parameter) → held_for (read x) q ≡ held_for (read y) q) → x ≡ y
 unfolding held_for held_id_in
 one_for_values x y b c good-x good-y n i e =
-    let k = same-saved C i in
-    let l = same-saved A refl in
+    let k = same_saved C i in
+    let l = same_saved A refl in
     made_of x good-x ∙ rw (n, k, l) refl ∙ sym (made_of y good-y)
   where
-    same-saved : (g : Group) → id_in g (saved g (read x)) ≡ id_in g (saved g (read y)) → saved g (read x) ≡ saved g (read y)
-    same-saved g i =
+    same_saved : (g : Group) → id_in g (saved g (read x)) ≡ id_in g (saved g (read y)) → saved g (read x) ≡ saved g (read y)
+    same_saved g i =
         record_same g (saved g (read x)) (saved g (read y)) (read_bytes g x b) (read_bytes g y c) (read_ok g x) (read_ok g y) i
         (λ q j. subst (λ (w : Group). held_at q (saved w (read x)) ≡ held_at q (saved w (read y))) j (unfold held_for in e q))

@@ -135,13 +135,13 @@ due_valid s r d g = go g
     honestly : (h : Group) → honest h (in_force s.settings) ≡ true
     honestly h = and_r (in_ranges (rows h) (in_force s.settings)) (honest h (in_force s.settings)) (sound_ok s r h)
 
-    vouched-c : vouched C (in_force s.settings) ≡ true
-    vouched-c =
+    vouched_c : vouched C (in_force s.settings) ≡ true
+    vouched_c =
         rw (eqb-true (communication s).srdo.direction 1 on)
         at (and_r (vouched A (in_force s.settings)) (eqb (communication s).srdo.direction 0 || vouched C (in_force s.settings)) obeyed)
 
     go : (h : Group) → valid h (in_force s.settings) ≡ true
-    go C = implies (vouched C (in_force s.settings)) _ vouched-c (honestly C)
+    go C = implies (vouched C (in_force s.settings)) _ vouched_c (honestly C)
     go A = implies (vouched A (in_force s.settings)) _ (and_l (vouched A (in_force s.settings)) _ obeyed) (honestly A)
 
 signs_of : (g : Group) (s : State) → valid g (in_force s.settings) ≡ true → signs g (in_force s.settings) ≡ true

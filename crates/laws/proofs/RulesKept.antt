@@ -131,14 +131,14 @@ module _ (s : State) (st : List ℕ) (r : rules s ≡ true) where
     where
       go : (t : Bool) → is_operational s.core ≡ t → Started s.core.nmt (applied (Write p x) s.settings (read st))
       go true e =
-          let f : (row p).star ≡ false = rw (← (right-true (row p).star)) (rw e at a.unlocked) in
-          let same-value : (q : Parameter) → (row q).star ≡ true → in_force (applied (Write p x) s.settings (read st)) q ≡ in_force s.settings q =
+          let f : (row p).star ≡ false = rw (← (right_true (row p).star)) (rw e at a.unlocked) in
+          let same_value : (q : Parameter) → (row q).star ≡ true → in_force (applied (Write p x) s.settings (read st)) q ≡ in_force s.settings q =
           λ q t. applied_is s st (Write p x) a q ∙ rw (free_stays p q x s.settings (read st) f t) refl in
-          rw (start_by (applied (Write p x) s.settings (read st)) s.settings (same-value P51FE refl) (same-value P1301s1 refl) (same-value P13FE refl)) (start_ok s r)
+          rw (start_by (applied (Write p x) s.settings (read st)) s.settings (same_value P51FE refl) (same_value P1301s1 refl) (same_value P13FE refl)) (start_ok s r)
         where
-          right-true : (t : Bool) → t && true ≡ t
-          right-true true = refl
-          right-true false = refl
+          right_true : (t : Bool) → t && true ≡ t
+          right_true true = refl
+          right_true false = refl
       go false e = off _ _ e
 
   start_after_lem : (c : Change) (v : Service) → Allowed c s → Beside v s c

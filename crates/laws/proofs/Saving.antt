@@ -115,10 +115,10 @@ ranges_in g f h = sym (ranges_own g f) ∙ ranges_from (rows g) (own g f) inside
 
 own_same : (g : Group) (f h : Parameter → Value) → ((q : Parameter) → (row q).group ≡ g → f q ≡ h q) → own g f ≡ own g h
 unfolding own
-own_same g f h e = fun_ext same-own
+own_same g f h e = fun_ext same_own
   where
-    same-own : (q : Parameter) → own g f q ≡ own g h q
-    same-own q = go (same_group (row q).group g) refl
+    same_own : (q : Parameter) → own g f q ≡ own g h q
+    same_own q = go (same_group (row q).group g) refl
       where
         go : (b : Bool) → same_group (row q).group g ≡ b → cond b (f q) (default_for 1 q) ≡ cond b (h q) (default_for 1 q)
         go true d = e q (group_eq (row q).group g d)
@@ -145,15 +145,15 @@ pub record_ok : (g : Group) (id : ℕ) (f : Parameter → Value) → node_id id 
     → ok g (record_of g id f) ≡ true
 unfolding ok
 record_ok g id f a h s =
-    rw (length_record g id f (all_typed f h), eq-eqb (size_of_record g) (size_of_record g) refl, sound-of g s) (or_true (eqb (size_of_record g) 0))
+    rw (length_record g id f (all_typed f h), eq-eqb (size_of_record g) (size_of_record g) refl, sound_of g s) (or_true (eqb (size_of_record g) 0))
   where
     or_true : (b : Bool) → b || true ≡ true
     or_true true = refl
     or_true false = refl
 
-    sound-of : (g : Group) → sound g f ≡ true → sound_record g (record_of g id f) ≡ true
-    sound-of C s = unfold sound_record record_of in and_both (node_id id) _ a (record_sound C id f h ∙ s)
-    sound-of A s = unfold sound_record in record_sound A id f h ∙ s
+    sound_of : (g : Group) → sound g f ≡ true → sound_record g (record_of g id f) ≡ true
+    sound_of C s = unfold sound_record record_of in and_both (node_id id) _ a (record_sound C id f h ∙ s)
+    sound_of A s = unfold sound_record in record_sound A id f h ∙ s
 
 -- ---- an image written anew
 

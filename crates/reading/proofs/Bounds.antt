@@ -68,22 +68,22 @@ round_bounded f s num den p D P h =
     let l = low f in
     let n = num * 2 ^ l in
     let top = p + l in
-    let n-le : n ≤ 2 ^ top * den = le_trans (mul-le-mul_right (2 ^ l) h) (le_of_eq (mul_right_comm (2 ^ p) den (2 ^ l) ∙ ap (λ (z : ℕ). z * den) (sym (pow-add 2 p l)))) in
+    let n_le : n ≤ 2 ^ top * den = le_trans (mul-le-mul_right (2 ^ l) h) (le_of_eq (mul_right_comm (2 ^ p) den (2 ^ l) ∙ ap (λ (z : ℕ). z * den) (sym (pow-add 2 p l)))) in
     let more : 2 ^ top < 2 ^ suc top = pow-lt (le_of_eq refl) in
-    let q-lt : n / den < 2 ^ suc top = (div-lt_iff_lt-mul D).1 (lt_of_le_of_lt n-le (mul-lt-right (2 ^ top) (2 ^ suc top) den D more)) in
+    let q_lt : n / den < 2 ^ suc top = (div-lt_iff_lt-mul D).1 (lt_of_le_of_lt n_le (mul_lt_right (2 ^ top) (2 ^ suc top) den D more)) in
     let k = size (n / den) - prec f in
-    let k-le : k ≤ top = spare (size (n / den)) (prec f) top (size-le (n / den) (suc top) q-lt) (two f) in
+    let k_le : k ≤ top = spare (size (n / den)) (prec f) top (size-le (n / den) (suc top) q_lt) (two f) in
     let u = den * 2 ^ k in
-    let e : 2 ^ top ≡ 2 ^ (top - k) * 2 ^ k = ap (λ (z : ℕ). 2 ^ z) (sym (rejoin top k k-le)) ∙ pow-add 2 (top - k) k in
-    let cross : n * 2 ^ k ≤ 2 ^ top * u = le_trans (mul-le-mul_right (2 ^ k) n-le) (le_of_eq (mul_assoc (2 ^ top) den (2 ^ k))) in
-    let c-le : closest n u ≤ 2 ^ (top - k) = le_trans (closest_mono n u (2 ^ top) (2 ^ k) (mul-pos D (pow_pos k)) (pow_pos k) cross) (le_of_eq (ap (λ (z : ℕ). closest z (2 ^ k)) e ∙ closest_exact (2 ^ (top - k)) (2 ^ k) (pow_pos k))) in
-    let v-le : closest n u * 2 ^ k ≤ 2 ^ top = le_trans (mul-le-mul_right (2 ^ k) c-le) (le_of_eq (sym e)) in
+    let e : 2 ^ top ≡ 2 ^ (top - k) * 2 ^ k = ap (λ (z : ℕ). 2 ^ z) (sym (rejoin top k k_le)) ∙ pow-add 2 (top - k) k in
+    let cross : n * 2 ^ k ≤ 2 ^ top * u = le_trans (mul-le-mul_right (2 ^ k) n_le) (le_of_eq (mul_assoc (2 ^ top) den (2 ^ k))) in
+    let c_le : closest n u ≤ 2 ^ (top - k) = le_trans (closest_mono n u (2 ^ top) (2 ^ k) (mul-pos D (pow_pos k)) (pow_pos k) cross) (le_of_eq (ap (λ (z : ℕ). closest z (2 ^ k)) e ∙ closest_exact (2 ^ (top - k)) (2 ^ k) (pow_pos k))) in
+    let v_le : closest n u * 2 ^ k ≤ 2 ^ top = le_trans (mul-le-mul_right (2 ^ k) c_le) (le_of_eq (sym e)) in
     subst (λ (x : Float). Bounded x p) (sym (round_is f s num den))
     (by_value (units f s (closest n u) k) s (closest n u * 2 ^ k) l p
-    (units_val f s (closest n u) k (lt_of_le_of_lt v-le (pow-lt (below_top p (emax f) l P)))) v-le)
+    (units_val f s (closest n u) k (lt_of_le_of_lt v_le (pow-lt (below_top p (emax f) l P)))) v_le)
   where
-    mul-lt-right : (a b c : ℕ) → 0 < c → a < b → a * c < b * c
-    mul-lt-right a b c h l = mul-lt-mul_of_pos_right l h
+    mul_lt_right : (a b c : ℕ) → 0 < c → a < b → a * c < b * c
+    mul_lt_right a b c h l = mul-lt-mul_of_pos_right l h
 
 -- ---- the operations
 neg_bounded : (x : Float) (p : ℕ) → Bounded x p → Bounded (neg x) p

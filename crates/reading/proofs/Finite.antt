@@ -58,21 +58,21 @@ widen (fin s m e) p q l h = le_trans h (mul-le-mul_right (down e) (pow_mono l))
 pub pv_bounded : (s : Scaling) (fv : Fv) → InRange s → fv.0 < 2 ^ 16 → Bounded (pv_of s fv).0 40
 unfolding pv_of
 pv_bounded s fv r h =
-    let low-in = inside_bounded s.low r.low in
-    let high-in = inside_bounded s.high r.high in
-    let offset-in = inside_bounded s.offset r.offset in
+    let low_in = inside_bounded s.low r.low in
+    let high_in = inside_bounded s.high r.high in
+    let offset_in = inside_bounded s.offset r.offset in
     let a = sub binary32 s.high s.low in
-    let a_in : Bounded a 21 = sub_bounded binary32 s.high s.low 20 (lit≤ tt) high-in low-in in
+    let a_in : Bounded a 21 = sub_bounded binary32 s.high s.low 20 (lit≤ tt) high_in low_in in
     let n = of_int binary32 (pos fv.0) in
     let b = sub binary32 n four_thousand in
-    let b-in : Bounded b 17 = sub_bounded binary32 n four_thousand 16 (lit≤ tt) (whole_bounded binary32 fv.0 16 (lit≤ tt) (le_of_lt h)) (lit≤ tt) in
+    let b_in : Bounded b 17 = sub_bounded binary32 n four_thousand 16 (lit≤ tt) (whole_bounded binary32 fv.0 16 (lit≤ tt) (le_of_lt h)) (lit≤ tt) in
     let c = mul binary32 a b in
-    let c-in : Bounded c 38 = mul_bounded binary32 a b 21 17 (lit≤ tt) a_in b-in in
+    let c_in : Bounded c 38 = mul_bounded binary32 a b 21 17 (lit≤ tt) a_in b_in in
     let d = div binary32 c sixteen_thousand in
-    let d-in : Bounded d 38 = div_bounded binary32 c 7 38 (lit≤ tt) c-in in
+    let d_in : Bounded d 38 = div_bounded binary32 c 7 38 (lit≤ tt) c_in in
     let e = add binary32 s.low d in
-    let e-in : Bounded e 39 = add_bounded binary32 s.low d 38 (lit≤ tt) (widen s.low 20 38 (lit≤ tt) low-in) d-in in
-    add_bounded binary32 e s.offset 39 (lit≤ tt) e-in (widen s.offset 20 39 (lit≤ tt) offset-in)
+    let e_in : Bounded e 39 = add_bounded binary32 s.low d 38 (lit≤ tt) (widen s.low 20 38 (lit≤ tt) low_in) d_in in
+    add_bounded binary32 e s.offset 39 (lit≤ tt) e_in (widen s.offset 20 39 (lit≤ tt) offset_in)
 
 pub pv_finite : (s : Scaling) (fv : Fv) → InRange s → fv.0 < 2 ^ 16 → T (finite (pv_of s fv).0)
 pv_finite s fv r h = bounded_finite (pv_of s fv).0 40 (pv_bounded s fv r h)

@@ -130,5 +130,5 @@ is_below nan h f p = absurd (true≢false (sym f))
 is_below (inf s) h f p = absurd (true≢false (sym f))
 is_below (fin true m e) h f p = past (leb (m * up e) (1000000 * down e)) Below h
 is_below (fin false m e) h f p =
-    let in-it : leb (m * up e) (1000000 * down e) ≡ true = le-leb (m * up e) (1000000 * down e) (omega (arith, ltb-false (0 * down e) (m * up e * 1) p)) in
-    absurd (true≢false (rw in-it at h))
+    let in_it : leb (m * up e) (1000000 * down e) ≡ true = le-leb (m * up e) (1000000 * down e) (omega (arith, ltb-false (0 * down e) (m * up e * 1) p)) in
+    absurd (true≢false (rw in_it at h))

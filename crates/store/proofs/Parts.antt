@@ -72,10 +72,10 @@ module _ (image : List ℕ) (s : Sizes) (own : Bool) (e : s ≡ sizes_in image)
     pub not_own : own ≡ false → is_good image ≡ false
     not_own o = rw o at (tests _ refl)
 
-    pub by-records : (fine : Bool) → own ≡ true
+    pub by_records : (fine : Bool) → own ≡ true
         → fine ≡ (ok_n (part 0 s.n image) && (ok C (part s.n s.c image) && ok A (part (s.n + s.c) s.a image)))
         → is_good image ≡ fine
-    by-records fine o j = rw o at (tests fine j)
+    by_records fine o j = rw o at (tests fine j)
 
 -- so what is saved is of those sizes, or nothing
 pub kept : (image : List ℕ) (s : Sizes) → Sized image s → is_good image ≡ true → Kept image s

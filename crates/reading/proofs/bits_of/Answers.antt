@@ -4,12 +4,12 @@ use lib.Ieee.{nan, binary32, to_bits}
 use Rattle.reading.proofs.Nans.{is_nan_lem, no_nan}
 use Rattle.reading.proofs.bits_of.Goals as goal
 
-nan-bits : 0x7fc0_0000 ≡ to_bits binary32 nan
+nan_bits : 0x7fc0_0000 ≡ to_bits binary32 nan
 unfolding to_bits
-nan-bits = refl
+nan_bits = refl
 
 pub returns-then-x : goal.returns-then-x
-returns-then-x c = nan-bits ∙ ap (to_bits binary32) (sym (is_nan_lem _ c.if-x.true))
+returns-then-x c = nan_bits ∙ ap (to_bits binary32) (sym (is_nan_lem _ c.if-x.true))
 
 pub float_to_bits-result : goal.float_to_bits-result
 float_to_bits-result c = no_nan _ c.if-x.false

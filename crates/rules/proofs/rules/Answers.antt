@@ -44,29 +44,29 @@ module _ (s : State) where
   by_first : first s ≡ false → false ≡ Rules.rules s
   by_first h = rw (ordered, h)
 
-  by-start : Rules.rule_start s ≡ false → false ≡ Rules.rules s
-  by-start h = rw (ordered, h, and_false (first s))
+  by_start : Rules.rule_start s ≡ false → false ≡ Rules.rules s
+  by_start h = rw (ordered, h, and_false (first s))
 
-  by-lss : Rules.rule_lss s ≡ false → false ≡ Rules.rules s
-  by-lss h = rw (ordered, h, and_false (Rules.rule_start s), and_false (first s))
+  by_lss : Rules.rule_lss s ≡ false → false ≡ Rules.rules s
+  by_lss h = rw (ordered, h, and_false (Rules.rule_start s), and_false (first s))
 
-  by-sync : Rules.rule_sync s ≡ false → false ≡ Rules.rules s
-  by-sync h = rw (ordered, h, and_false (Rules.rule_lss s), and_false (Rules.rule_start s), and_false (first s))
+  by_sync : Rules.rule_sync s ≡ false → false ≡ Rules.rules s
+  by_sync h = rw (ordered, h, and_false (Rules.rule_lss s), and_false (Rules.rule_start s), and_false (first s))
 
-  by-upload : Rules.rule_upload s ≡ false → false ≡ Rules.rules s
-  by-upload h =
+  by_upload : Rules.rule_upload s ≡ false → false ≡ Rules.rules s
+  by_upload h =
       rw (ordered, h, and_false (Rules.rule_sync s), and_false (Rules.rule_lss s), and_false (Rules.rule_start s), and_false (first s))
 
-  by-reading : Rules.rule_reported s ≡ false → false ≡ Rules.rules s
-  by-reading h =
+  by_reading : Rules.rule_reported s ≡ false → false ≡ Rules.rules s
+  by_reading h =
       rw (ordered, h, and_false (Rules.rule_upload s), and_false (Rules.rule_sync s), and_false (Rules.rule_lss s), and_false (Rules.rule_start s), and_false (first s))
 
-  by-honest : first s ≡ true → Rules.rule_start s ≡ true → Rules.rule_lss s ≡ true → Rules.rule_sync s ≡ true → Rules.rule_upload s ≡ true
+  by_honest : first s ≡ true → Rules.rule_start s ≡ true → Rules.rule_lss s ≡ true → Rules.rule_sync s ≡ true → Rules.rule_upload s ≡ true
       → Rules.rule_reported s ≡ true → Rules.rule_honest s ≡ Rules.rules s
-  by-honest a b c d e f = rw (ordered, a, b, c, d, e, f)
+  by_honest a b c d e f = rw (ordered, a, b, c, d, e, f)
 
-  in-range : first s ≡ true → Rules.rule_ranges s ≡ true
-  in-range h = and_r (Rules.rule_nmt s) _ (and_r (Rules.rule_bits s) _ (and_r (Rules.rule_ids s) _ h))
+  in_range : first s ≡ true → Rules.rule_ranges s ≡ true
+  in_range h = and_r (Rules.rule_nmt s) _ (and_r (Rules.rule_bits s) _ (and_r (Rules.rule_ids s) _ h))
 
 pub returns-then-not-rule_ids-rule_bits : goal.returns-then-not-rule_ids-rule_bits
 returns-then-not-rule_ids-rule_bits c =
@@ -74,32 +74,32 @@ returns-then-not-rule_ids-rule_bits c =
 
 pub returns-then-not-rule_start : goal.returns-then-not-rule_start
 returns-then-not-rule_start c =
-    by-start c.args.s ((rw c.rule_start.ensures at c.if-not-rule_start.true))
+    by_start c.args.s ((rw c.rule_start.ensures at c.if-not-rule_start.true))
 
 pub returns-then-not-rule_lss : goal.returns-then-not-rule_lss
 returns-then-not-rule_lss c =
-    by-lss c.args.s ((rw c.rule_lss.ensures at c.if-not-rule_lss.true))
+    by_lss c.args.s ((rw c.rule_lss.ensures at c.if-not-rule_lss.true))
 
 pub returns-then-not-rule_sync : goal.returns-then-not-rule_sync
 returns-then-not-rule_sync c =
-    by-sync c.args.s ((rw c.rule_sync.ensures at c.if-not-rule_sync.true))
+    by_sync c.args.s ((rw c.rule_sync.ensures at c.if-not-rule_sync.true))
 
 pub returns-then-not-rule_upload : goal.returns-then-not-rule_upload
 returns-then-not-rule_upload c =
-    by-upload c.args.s ((rw c.rule_upload.ensures at c.if-not-rule_upload.true))
+    by_upload c.args.s ((rw c.rule_upload.ensures at c.if-not-rule_upload.true))
 
 pub rule_reported-requires : goal.rule_reported-requires
 rule_reported-requires c =
-    few_digits c.args.s (in-range c.args.s ((rw (c.rule_ids.ensures, c.rule_bits.ensures, c.rule_nmt.ensures, c.rule_ranges.ensures) at c.if-not-rule_ids-rule_bits.false)))
+    few_digits c.args.s (in_range c.args.s ((rw (c.rule_ids.ensures, c.rule_bits.ensures, c.rule_nmt.ensures, c.rule_ranges.ensures) at c.if-not-rule_ids-rule_bits.false)))
 
 pub returns-then-not-rule_reported : goal.returns-then-not-rule_reported
 returns-then-not-rule_reported c =
-    by-reading c.args.s ((rw c.rule_reported.ensures at c.if-not-rule_reported.true))
+    by_reading c.args.s ((rw c.rule_reported.ensures at c.if-not-rule_reported.true))
 
 pub returns : goal.returns
 returns c =
     rw c.rule_honest.ensures
-    (by-honest c.args.s
+    (by_honest c.args.s
     ((rw (c.rule_ids.ensures, c.rule_bits.ensures, c.rule_nmt.ensures, c.rule_ranges.ensures) at c.if-not-rule_ids-rule_bits.false))
     ((rw c.rule_start.ensures at c.if-not-rule_start.false))
     ((rw c.rule_lss.ensures at c.if-not-rule_lss.false))
