@@ -38,7 +38,7 @@ kit_run() {
 # kit_archive : the path of the proved node's archive, which is proved and built where it is missing or a source is newer.
 kit_archive() {
     local archive=$kit_root/crates/port/out/libport.a log
-    if [ ! -e "$archive" ] || [ -n "$(find "$kit_root/crates" "$kit_root/crates.txt" -path '*/out' -prune -o -newer "$archive" -type f -print -quit)" ]; then
+    if [ ! -e "$archive" ] || [ -n "$(find "$kit_root/crates" "$kit_root/crates.txt" -regex '.*/crates/[^/]*/out' -prune -o -newer "$archive" -print -quit)" ]; then
         if ! log=$(cd "$kit_root/crates/port" && rt lib 2>&1); then
             printf '%s\n' "$log" | tail -n 20 >&2
             echo "${0##*/}: the archive could not be built" >&2

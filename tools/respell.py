@@ -137,6 +137,8 @@ def main():
         for old in sorted(table):
             print(old, table[old])
         return
+    if not any(re.match(r"[a-z]+[A-Z]", name) and any("/specs/" in f for f in where) for name, where in declared().items()):
+        sys.exit("respell: it has run here already")
     declared_in("")
     todo = []
     for f in files("crates/*/specs/**/*.antt", "crates/*/proofs/**/*.antt", "crates/*/src/**/*.rt", "crates/*/must-fail/*.edit", "README.md", "docs/*.md"):
