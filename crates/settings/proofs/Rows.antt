@@ -8,6 +8,7 @@ use Prim.Native.Nat.{ℕ}
 use lib.Dec.{eqb}
 use lib.ListN.{length, replicate, get_or}
 use borrow.Author.Tests.{eq-eqb, eqb-true}
+use Rattle.std.proofs.lemmas.Bool.{or_cases}
 use denote.Enum.Declared.{tag_of}
 use Rattle.model.specs.contracts.Parameter.{the_type}
 use Rattle.model.specs.contracts.Kind as Kinds
@@ -46,10 +47,10 @@ numbered P51FE = refl
 numbered P51FF = refl
 
 -- what an arm knows: the parameter is one of those with these numbers
-abbrev pub Arm : List ℕ → Parameter → Type 0
-Arm [] p = ⊥
-Arm (k ∷ []) p = p ≡ nth k
-Arm (k ∷ l ∷ ks) p = (p ≡ nth k) ⊎ Arm (l ∷ ks) p
+abbrev pub Among : List ℕ → Parameter → Type 0
+Among [] p = ⊥
+Among (k ∷ []) p = p ≡ nth k
+Among (k ∷ l ∷ ks) p = (p ≡ nth k) ⊎ Among (l ∷ ks) p
 
 -- and what the last arm knows: it is none of those
 abbrev pub NotAny : List ℕ → Parameter → Type 0
@@ -57,77 +58,73 @@ NotAny [] p = Unit {0}
 NotAny (k ∷ ks) p = (p ≡ nth k → ⊥) × NotAny ks p
 
 -- what an arm cites: where the column has one value at the numbers that the arm names, it has that value at the parameter
-pub of_each : {A : Type 0} (f : Parameter → A) (a : A) (ks : List ℕ) (p : Parameter) → Arm ks p → column f ks ≡ replicate (length ks) a → a ≡ f p
+pub of_each : {A : Type 0} (f : Parameter → A) (a : A) (ks : List ℕ) (p : Parameter) → Among ks p → column f ks ≡ replicate (length ks) a → a ≡ f p
 of_each f a [] p h e = absurd h
 of_each f a (k ∷ []) p h e = let x : f (nth k) ≡ a = (cc) in sym x ∙ ap f (sym h)
 of_each f a (k ∷ l ∷ ks) p (inl h) e = let x : f (nth k) ≡ a = (cc) in sym x ∙ ap f (sym h)
 of_each f a (k ∷ l ∷ ks) p (inr h) e = of_each f a (l ∷ ks) p h (cc)
 
 -- whether a number is in a list
-abbrev has : List ℕ → ℕ → Bool
-has [] x = false
-has (k ∷ ks) x = eqb x k || has ks x
-
-or_true : (a b : Bool) → (a || b) ≡ true → (a ≡ true) ⊎ (b ≡ true)
-or_true true b e = inl refl
-or_true false b e = inr e
+abbrev is_listed : List ℕ → ℕ → Bool
+is_listed [] x = false
+is_listed (k ∷ ks) x = eqb x k || is_listed ks x
 
 at_place : (p : Parameter) (k : ℕ) → eqb (tag_of the_type p) k ≡ true → p ≡ nth k
 at_place p k e = sym (numbered p) ∙ ap nth (eqb-true (tag_of the_type p) k e)
 
-found : (ks : List ℕ) (p : Parameter) → has ks (tag_of the_type p) ≡ true → Arm ks p
+found : (ks : List ℕ) (p : Parameter) → is_listed ks (tag_of the_type p) ≡ true → Among ks p
 found [] p e = false≢true e
-found (k ∷ []) p e = at_place p k (⊎_elim (λ h. h) (λ h. absurd (false≢true h)) (or_true (eqb (tag_of the_type p) k) false e))
+found (k ∷ []) p e = at_place p k (⊎_elim (λ h. h) (λ h. absurd (false≢true h)) (or_cases (eqb (tag_of the_type p) k) false e))
 found (k ∷ l ∷ ks) p e =
-    ⊎_elim (λ h. inl (at_place p k h)) (λ h. inr (found (l ∷ ks) p h)) (or_true (eqb (tag_of the_type p) k) (has (l ∷ ks) (tag_of the_type p)) e)
+    ⊎_elim (λ h. inl (at_place p k h)) (λ h. inr (found (l ∷ ks) p h)) (or_cases (eqb (tag_of the_type p) k) (is_listed (l ∷ ks) (tag_of the_type p)) e)
 
-unnamed : (ks : List ℕ) (p : Parameter) → NotAny ks p → has ks (tag_of the_type p) ≡ true → ⊥
+unnamed : (ks : List ℕ) (p : Parameter) → NotAny ks p → is_listed ks (tag_of the_type p) ≡ true → ⊥
 unnamed [] p n e = false≢true e
 unnamed (k ∷ ks) p n e =
-    ⊎_elim (λ h. n.0 (at_place p k h)) (λ h. unnamed ks p n.1 h) (or_true (eqb (tag_of the_type p) k) (has ks (tag_of the_type p)) e)
+    ⊎_elim (λ h. n.0 (at_place p k h)) (λ h. unnamed ks p n.1 h) (or_cases (eqb (tag_of the_type p) k) (is_listed ks (tag_of the_type p)) e)
 
 -- all numbers of the table
-abbrev pub rows : List ℕ
-rows = 0 ∷ 1 ∷ 2 ∷ 3 ∷ 4 ∷ 5 ∷ 6 ∷ 7 ∷ 8 ∷ 9 ∷ 10 ∷ 11 ∷ 12 ∷ 13 ∷ 14 ∷ 15 ∷ 16 ∷ []
+abbrev pub all_numbers : List ℕ
+all_numbers = 0 ∷ 1 ∷ 2 ∷ 3 ∷ 4 ∷ 5 ∷ 6 ∷ 7 ∷ 8 ∷ 9 ∷ 10 ∷ 11 ∷ 12 ∷ 13 ∷ 14 ∷ 15 ∷ 16 ∷ []
 
-in_rows : (p : Parameter) → has rows (tag_of the_type p) ≡ true
-in_rows P1017 = refl
-in_rows P1301s1 = refl
-in_rows P1301s2 = refl
-in_rows P1301s3 = refl
-in_rows P1301s5 = refl
-in_rows P1301s6 = refl
-in_rows P1800s2 = refl
-in_rows P1800s5 = refl
-in_rows P13FE = refl
-in_rows P13FF = refl
-in_rows P2330 = refl
-in_rows P6121 = refl
-in_rows P6123 = refl
-in_rows P6124 = refl
-in_rows P6132 = refl
-in_rows P51FE = refl
-in_rows P51FF = refl
+listed : (p : Parameter) → is_listed all_numbers (tag_of the_type p) ≡ true
+listed P1017 = refl
+listed P1301s1 = refl
+listed P1301s2 = refl
+listed P1301s3 = refl
+listed P1301s5 = refl
+listed P1301s6 = refl
+listed P1800s2 = refl
+listed P1800s5 = refl
+listed P13FE = refl
+listed P13FF = refl
+listed P2330 = refl
+listed P6121 = refl
+listed P6123 = refl
+listed P6124 = refl
+listed P6132 = refl
+listed P51FE = refl
+listed P51FF = refl
 
-every : (p : Parameter) → Arm rows p
-every p = found rows p (in_rows p)
+every : (p : Parameter) → Among all_numbers p
+every p = found all_numbers p (listed p)
 
 -- a number is in one list or the other
 abbrev pub either : List ℕ → List ℕ → Parameter → Bool
-either ks ls p = has ks (tag_of the_type p) || has ls (tag_of the_type p)
+either ks ls p = is_listed ks (tag_of the_type p) || is_listed ls (tag_of the_type p)
 
 -- what the last arm cites: the arms before it name ks, and the other numbers are ls
-pub others : (ks ls : List ℕ) → column (either ks ls) rows ≡ replicate (length rows) true → (p : Parameter) → NotAny ks p → Arm ls p
+pub others : (ks ls : List ℕ) → column (either ks ls) all_numbers ≡ replicate (length all_numbers) true → (p : Parameter) → NotAny ks p → Among ls p
 others ks ls e p n =
     ⊎_elim (λ h. absurd (unnamed ks p n h)) (λ h. found ls p h)
-    (or_true (has ks (tag_of the_type p)) (has ls (tag_of the_type p)) (sym (of_each (either ks ls) true rows p (every p) e)))
+    (or_cases (is_listed ks (tag_of the_type p)) (is_listed ls (tag_of the_type p)) (sym (of_each (either ks ls) true all_numbers p (every p) e)))
 
 -- one type and the same
 abbrev same_kind : Kind → Kind → Bool
 same_kind k l = eqb (tag_of Kinds.the_type k) (tag_of Kinds.the_type l)
 
 -- what an arm cites that is never reached: none of its parameters has the type
-pub no_such : (k : Kind) (ks : List ℕ) (p : Parameter) → Arm ks p
+pub no_such : (k : Kind) (ks : List ℕ) (p : Parameter) → Among ks p
     → column (λ (q : Parameter). same_kind k (row q).kind) ks ≡ replicate (length ks) false → k ≡ (row p).kind → ⊥
 no_such k ks p h e same =
     false≢true (of_each (λ (q : Parameter). same_kind k (row q).kind) false ks p h e ∙ eq-eqb _ _ (ap (tag_of Kinds.the_type) same))
