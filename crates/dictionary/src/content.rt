@@ -16,7 +16,7 @@ fn pv(s: State) -> Pv
     to_pv(scaling, fv)
 }
 
-// The present integer PV.
+// The present integer PV. That the digits fit stays a clause, here and below: the state holds a byte, as C has it, and the definitions take it so.
 fn integer(s: State) -> Integer
     requires { s.settings.application.digits ≤ 4 }
     ensures { result ≡ Parts.integer_pv s }
@@ -25,6 +25,7 @@ fn integer(s: State) -> Integer
 }
 
 // The error register: 81h while the reading is capped.
+#[tactic(auto, unfolding(model::specs::Parts::error_register))]
 fn error_register(s: State) -> u8
     requires { s.settings.application.digits ≤ 4 }
     ensures { result ≡ Parts.error_register s }
@@ -50,7 +51,7 @@ pub fn shown(l: Live, s: State) -> Value
         Live::SdoReplyId => Value::U32(0x580 + id),
         Live::TpdoId => Value::U32(0x180 + id),
         Live::PvBits => Value::U32(bits_of(pv(s).0)),
-        Live::PvInverse => Value::U32(0xffffffff - bits_of(pv(s).0)),
+        Live::PvInverse => Value::U32(!bits_of(pv(s).0)),
         Live::PvReal => Value::Real32(pv(s).0),
         Live::FvCount => Value::U16(s.core.fv.0),
         Live::PvInteger => Value::Integer32(signed_of(integer(s).bits)),
@@ -68,7 +69,6 @@ pub fn content(e: Entry, s: State) -> Content
         Entry::Name => Content::Text,
         Entry::Shown(l) => Content::Plain(shown(l, s)),
         Entry::Setting(p) => Content::Plain(value_of(k, p)),
-        Entry::SaveWord(_) => Content::Plain(Value::U32(1)),
-        Entry::LoadWord(_) => Content::Plain(Value::U32(1)),
+        Entry::SaveWord(_) | Entry::LoadWord(_) => Content::Plain(Value::U32(1)),
     }
 }

@@ -3,4 +3,5 @@
 
 pub mod objects; // every object and sub
 pub mod content; // what an entry reads as
+pub mod abort; // why a request is refused
 pub mod write; // the write checks

@@ -2,11 +2,13 @@
 use Rattle.std.proofs.Common.{◌≡◌, ℕ, suc, ◌+◌, ◌-◌, ◌%◌, ◌^◌, ◌<◌, Bool, true, false, cond, ltb, List, [], ◌∷◌, ◌++◌, length, take, sym, refl, ap, ◌∙◌, ap₂, append_assoc, append-nil, arith, length-append}
 use Rattle.model.specs.Run.{Line, World, sent_in, begun, run}
 use Rattle.model.specs.Step.{output_size, zero_store}
-use Rattle.model.specs.Program.{line_text, log_text, frame_count, end_line, zero_identity, records, log_of, program}
+use Rattle.model.specs.Program
+use Rattle.model.specs.Program.{line_text, log_text, frame_count, end_line, zero_identity, log_of, program}
+use Rattle.text.specs.declared.Text.{Text}
 use Rattle.program.specs.declared.Turn.{Turn}
-use Rattle.program.specs.Turns.{Begins}
+use Rattle.program.specs.Turns.{world, Begins}
 use Rattle.events.specs.declared.Run.{Run}
-use Rattle.events.specs.Reads.{Kept, kept, goes, stays, noted, all_noted, handed, fresh, Took, Whole, Ended, Done}
+use Rattle.events.specs.Reads.{Kept, waits, kept, goes, stays, noted, all_noted, handed, fresh, Took, Whole, Ended, Done}
 use Rattle.events.proofs.Going.{text_written}
 
 -- ---- The text of lines, newest first, that are numbered on from n
@@ -90,57 +92,51 @@ module _ (ls : List Line) (first : Line) (few : length ls < 2 ^ 64) (less : fram
 
 -- ---- From the power-on
 
--- as the program starts: the power-on's text waits
-abbrev started : Turn → Run
-started t = record { state = t.state; records = 0; frames = t.frames; fill = t.at; more = true; «open» = true }
+-- the run r starts as the power-on leaves it, its text in front
+module _ {st : List ℕ} {t : Text} {turn : Turn} (r : Run) (b : Begins zero_identity st t r.text turn) (front : t.len ≡ 0) (state : r.state ≡ turn.state)
+    (store : r.store.now ≡ st) (records : r.records ≡ 0) (frames : r.frames ≡ turn.frames) where
+  started : kept r ≡ fresh b.line
+  started = λ i. record { records = records i; frames = (frames ∙ b.frames) i; waits = text i }
+    where
+      text : waits r ≡ line_text 0 b.line
+      text = text_written b.text ∙ ap (λ (n : ℕ). take n t.bytes.now ++ line_text 0 b.line) front
 
-started_kept : {st xs ys : List ℕ} {t : Turn} (b : Begins zero_identity st xs ys t) → kept (started t) ys ≡ fresh b.line
-started_kept {st} {xs} {ys} {t} b = λ i. record { records = 0; frames = b.frames i; waits = text i }
-  where
-    text : take t.at ys ≡ line_text 0 b.line
-    text = text_written (omega arith) b.text
+  -- the log is the definition's
+  whole_log : {q : Run} → st ≡ zero_store → (a : Took r q false) → log_of a.bytes ≡ a.went.lines ++ (b.line ∷ [])
+  unfolding log_of
+  whole_log zeros a =
+      let cs = Program.records (length a.bytes) a.bytes in
+      ap (λ (s : List ℕ). (run cs (begun zero_identity output_size s)).log) (sym zeros)
+      ∙ ap (λ (w : World). (run cs w).log) (b.starts ∙ ap₂ (λ s z. world s z (b.line ∷ [])) (sym state) (sym store))
+      ∙ ap (λ (w : World). w.log) (a.went.goes_on (b.line ∷ []))
 
--- the log is the definition's
-whole_log : {st xs ys us vs : List ℕ} {t : Turn} {q : Run} → st ≡ zero_store → (b : Begins zero_identity st xs ys t)
-    → (a : Took (started t) ys st us vs q) → log_of a.bytes ≡ a.went.lines ++ (b.line ∷ [])
-unfolding log_of
-whole_log {st} {xs} {ys} zeros b a =
-    let cs = records (length a.bytes) a.bytes in
-    ap (λ (s : List ℕ). (run cs (begun zero_identity output_size s)).log) (sym zeros)
-    ∙ ap (λ (w : World). (run cs w).log) b.starts
-    ∙ ap (λ (w : World). w.log) (a.went.goes_on (b.line ∷ []))
-
-pub whole_run : {st xs ys us vs : List ℕ} {t : Turn} {q : Run} → st ≡ zero_store → Begins zero_identity st xs ys t
-    → Took (record { state = t.state; records = 0; frames = t.frames; fill = t.at; more = true; «open» = true }) ys st us vs q
-    → Whole us q
-whole_run zeros b a =
-    record {
-      bytes = a.bytes;
-      first = b.line;
-      lines = a.went.lines;
-      log = whole_log zeros b a;
-      keeps = a.went.keeps ∙ ap (all_noted a.went.lines) (started_kept b);
-      fits = a.went.fits;
-    }
+  pub whole_run : {q : Run} → st ≡ zero_store → Took r q false → Whole q
+  whole_run zeros a =
+      record {
+        bytes = a.bytes;
+        first = b.line;
+        lines = a.went.lines;
+        log = whole_log zeros a;
+        keeps = a.went.keeps ∙ ap (all_noted a.went.lines) started;
+      }
 
 -- ---- To the end
 
 -- all that is handed over: on the way, for room at the end, and at last
-pub all_handed : {xs ys : List ℕ} {r : Run} → Whole xs r → Ended r xs ys → Done ys
-all_handed {xs} {ys} {r} w e =
+pub all_handed : {r q : Run} → Whole r → Ended r q → Done q
+all_handed {r} {q} w e =
     record {
       bytes = w.bytes;
       first = w.first;
       lines = w.lines;
       log = w.log;
-      end = e.end;
       text = λ few less.
           let h = handed w.lines (fresh w.first) in
-          let t = take r.fill xs in
+          let t = waits r in
           let l = end_line r.records r.frames in
-          ap (λ (k : Kept). h ++ goes k.waits ++ take e.end ys) (sym w.keeps)
-          ∙ ap (λ (u : List ℕ). h ++ goes t ++ u) e.bytes
+          ap (λ (k : Kept). h ++ goes k.waits ++ waits q) (sym w.keeps)
+          ∙ ap (λ (u : List ℕ). h ++ goes t ++ u) e
           ∙ sym (append_assoc (h ++ goes t) (stays t) l)
           ∙ ap (λ (u : List ℕ). u ++ l) (append_assoc h (goes t) (stays t) ∙ ap (λ (u : List ℕ). h ++ u) (goes_stays t))
-          ∙ sym (whole_text w.lines w.first few less w.bytes w.log (kept r xs) w.keeps);
+          ∙ sym (whole_text w.lines w.first few less w.bytes w.log (kept r) w.keeps);
     }

@@ -2,121 +2,169 @@
 // by way of a buffer.
 #![tactic(auto)]
 
-ghost use Rattle.std.specs.Prelude.{◌≡◌, ◌<◌, ◌≤◌, true, false, [], ◌∷◌, ◌++◌, length, take, drop, if◌then◌else◌, ◌==◌};
+ghost use Rattle.std.specs.Prelude.{◌≡◌, true, false, ◌==◌, if◌then◌else◌, ◌≤◌, [], ◌∷◌, length};
+ghost use Rattle.model.specs.Program;
 ghost use Rattle.model.specs.Step.{zero_store};
-ghost use Rattle.model.specs.Program as Text;
 ghost use Rattle.program.specs.Turns.{calling};
-ghost use Rattle.events.specs.Reads.{goes, Roomy, Went, Took, Whole, Ended, Done};
 
 use model::State;
 use program::{begin, call};
 use std::io;
 use std::io::{Read, Write};
-use text::end_line;
+use text::Text;
 
-// What is kept from record to record: the node, the counts, how much of the text is waiting, whether there is more to read, and whether the output
-// still takes text.
-#[derive(Clone, Copy)]
-struct Run {
+// The bytes of a record, and of the 1,024 that are read at once.
+const RECORD: usize = 13;
+
+const INPUT: usize = 1024 * RECORD;
+
+// The bytes of the text, of which a record's lines take 168 at most: past `FULL` there is no room for them.
+const TEXT: usize = 16384;
+
+const FULL: usize = TEXT - 168;
+
+// The bytes of the store.
+const STORE: usize = 64;
+
+// What is kept from record to record: the node and its store, the counts, the text that waits, and whether the output still takes text.
+#[derive(Drop)]
+struct Run<'a> {
+    rt: &'a HostRuntime,
     state: State,
+    store: &'a mut [u8],
     records: u64,
     frames: u64,
-    fill: usize,
-    more: bool,
+    text: Text<'a>,
     open: bool,
+    ghost fits: { (text.len ≤ 16384) × (length text.bytes.now ≡ 16384) },
 }
 
-// Standard output takes all the text that waits, once there is little room left, and not where it was found closed; answers whether it did.
-// `text` is there for what is required: that nothing else is handed over.
-fn hand_over(rt: &HostRuntime, r: Run, text: &[u8], out: &[u8]) -> bool
-    requires { (16216 < r.fill) × (out.now ≡ goes (take r.fill text.now)) }
-    ensures { result ≡ true → r.«open» ≡ true }
-{
-    r.open && io::writer(rt).write_all(out).is_ok()
-}
+impl<'a> Run<'a> {
+    ghost use Rattle.events.specs.Reads.{waits, MayGo, Roomy, Went, Took, Whole, Ended, Done};
 
-// The same at the end: what still waits, and the last line behind it.
-fn hand_over_last(rt: &HostRuntime, r: Run, text: &[u8], out: &[u8]) -> bool
-    requires { out.now ≡ take r.fill text.now ++ Text.end_line r.records r.frames }
-{
-    r.open && io::writer(rt).write_all(out).is_ok()
-}
-
-// Room for the next lines: where there is little left, the text so far is handed over. Nothing is written to an output that was
-// found closed, so that no text is missing from the middle.
-fn with_room(rt: &HostRuntime, r: Run, text: &[u8]) -> Run
-    requires { r.fill ≤ length text.now }
-    ensures { Roomy r result }
-{
-    let mut next = r;
-    let fill = r.fill;
-    if 16216 < fill {
-        next.open = hand_over(rt, r, text, &text[..fill]);
-        next.fill = 0;
+    // Standard output takes this text, and not where it was found closed; answers whether it did. Nothing else writes to it.
+    fn hand_over(&self, out: &[u8]) -> bool
+        requires { MayGo self.now out.now }
+        ensures { result ≡ true → self.now.«open» ≡ true }
+    {
+        self.open && io::writer(self.rt).write_all(out).is_ok()
     }
-    next
-}
 
-// One record.
-fn one(rt: &HostRuntime, r: Run, bytes: &[u8], text: &mut [u8], store: &mut [u8]) -> Run
-    requires { (length text.old ≡ 16384) × (r.fill ≤ 16384) }
-    ensures went { Went (calling bytes.now ∷ []) r text.old store.old text.new store.new result }
-    ensures more_value { result.more ≡ r.more }
-{
-    let ready = with_room(rt, r, text);
-    let number = std::num::wrapping_add_u64(ready.records, 1);
-    let t = call(bytes, number, ready.state, text, ready.fill, store);
-    let state = t.state;
-    Run {
-        state,
-        records: number,
-        frames: std::num::wrapping_add_u64(ready.frames, t.frames),
-        fill: t.at,
-        more: ready.more,
-        open: ready.open,
+    // All that waits so.
+    fn hand_over_all(&self) -> bool
+        requires { MayGo self.now (waits self.now) }
+        ensures { result ≡ true → self.now.«open» ≡ true }
+    {
+        self.hand_over(&self.text.bytes[..self.text.len])
     }
-}
 
-// The record at i, which is short where fewer than 13 bytes are left.
-fn record_at(rt: &HostRuntime, r: Run, s: &[u8], i: usize, text: &mut [u8], store: &mut [u8]) -> Run
-    requires { (length text.old ≡ 16384) × (r.fill ≤ 16384) }
-    ensures went { Went (Text.records 1 (drop i s.now)) r text.old store.old text.new store.new result }
-    ensures more_value { result.more ≡ r.more }
-{
-    if s.len() <= i {
-        return r;
+    // Room for the next lines: where there is little left, the text so far is handed over. Nothing is written to an output that was
+    // found closed, so that no text is missing from the middle.
+    fn with_room(&mut self)
+        ensures { Roomy self.old self.new }
+    {
+        if FULL < self.text.len {
+            self.open = self.hand_over_all();
+            self.text.len = 0;
+        }
     }
-    if s.len() - i < 13 {
-        return one(rt, r, &s[i..], text, store);
-    }
-    let end = i + 13;
-    one(rt, r, &s[i..end], text, store)
-}
 
-// All the records of a buffer.
-fn records(rt: &HostRuntime, r: Run, s: &[u8], text: &mut [u8], store: &mut [u8]) -> Run
-    requires { (length text.old ≡ 16384) × (r.fill ≤ 16384) × (length s.now ≤ 13312) }
-    ensures went { Went (Text.records (length s.now) s.now) r text.old store.old text.new store.new result }
-    ensures more_value { result.more ≡ r.more }
-{
-    let mut now = r;
-    let mut k = 0;
-    while k < 1024 {
-        now = record_at(rt, now, s, 13 * k, text, store);
-        k += 1;
+    // One record.
+    fn one(&mut self, bytes: &[u8])
+        ensures { Went (calling bytes.now ∷ []) self.old self.new }
+    {
+        self.with_room();
+        self.records = self.records.wrapping_add(1);
+        let turn = call(bytes, self.records, self.state, &mut self.text, self.store);
+        self.state = turn.state;
+        self.frames = self.frames.wrapping_add(turn.frames);
     }
-    now
-}
 
-// A buffer of what was read. Where it is not full, the input has ended; where the output takes no more text, so has the run.
-fn taken(rt: &HostRuntime, r: Run, s: &[u8], text: &mut [u8], store: &mut [u8]) -> Run
-    requires { (length text.old ≡ 16384) × (r.fill ≤ 16384) × (length s.now ≤ 13312) }
-    ensures went { Went (Text.records (length s.now) s.now) r text.old store.old text.new store.new result }
-    ensures more_value { result.more ≡ (if result.«open» then (length s.now == 13312) else false) }
-{
-    let mut after = records(rt, r, s, text, store);
-    after.more = after.open && s.len() == 13312;
-    after
+    // All the records of a buffer, of which the last is short where fewer than 13 bytes are left.
+    #[tactic(auto, using(crate::proofs::Going::far_none, crate::proofs::Going::far_more))]
+    fn records(&mut self, s: &[u8])
+        ensures { Went (Program.records (length s.now) s.now) self.old self.new }
+    {
+        for record in s.chunks(RECORD) {
+            self.one(record);
+        }
+    }
+
+    // A buffer of what was read; answers whether there is more. Where it is not full, the input has ended; where the output takes no more
+    // text, so has the run.
+    fn taken(&mut self, s: &[u8]) -> bool
+        ensures went { Went (Program.records (length s.now) s.now) self.old self.new }
+        ensures more { result ≡ (if self.new.«open» then (length s.now == 13312) else false) }
+    {
+        self.records(s);
+        self.open && s.len() == INPUT
+    }
+
+    // One buffer of 1,024 records.
+    fn buffer(&mut self) -> bool
+        ensures { Took self.old self.new result }
+    {
+        let mut input = [0u8; INPUT];
+        let n = read_full(self.rt, &mut input);
+        self.taken(&input[..n])
+    }
+
+    // The whole input. Nothing says that it ends, so the turns are counted, to a number that no run uses up.
+    fn input(&mut self)
+        ensures { Took self.old self.new false }
+    {
+        for _ in 0..u64::MAX {
+            if !self.buffer() {
+                break;
+            }
+        }
+    }
+
+    // The last line.
+    fn close(&mut self)
+        ensures { Ended self.old self.new }
+    {
+        self.with_room();
+        self.text.end_line(self.records, self.frames);
+        self.hand_over_all();
+    }
+
+    // The power-on and the whole input, from a store of zeros.
+    fn whole_run(
+        rt: &'a HostRuntime,
+        text: &'a mut [u8; TEXT],
+        store: &'a mut [u8; STORE],
+    ) -> Run<'a>
+        requires { store.old ≡ zero_store }
+        ensures { Whole result }
+    {
+        let mut text = Text {
+            bytes: text,
+            len: 0,
+        };
+        let turn = begin(&mut text, store);
+        let mut run = Run {
+            rt,
+            state: turn.state,
+            store,
+            records: 0,
+            frames: turn.frames,
+            text,
+            open: true,
+        };
+        run.input();
+        run
+    }
+
+    // The whole run, and then the last line.
+    fn to_end(rt: &'a HostRuntime, text: &'a mut [u8; TEXT], store: &'a mut [u8; STORE]) -> Run<'a>
+        requires { store.old ≡ zero_store }
+        ensures { Done result }
+    {
+        let mut run = Run::whole_run(rt, text, store);
+        run.close();
+        run
+    }
 }
 
 // Standard input fills the buffer from its start on, until it is full, the input ends or a read fails; how many bytes it has then.
@@ -124,88 +172,20 @@ fn read_full(rt: &HostRuntime, buf: &mut [u8]) -> usize
     ensures { result ≤ length buf.new }
 {
     let mut input = rt.stdin();
-    let mut done = 0;
-    while done < buf.len() {
-        let n = input.read(&mut buf[done..]).unwrap_or(0);
-        if n == 0 {
-            break;
+    let len = buf.len();
+    let mut rest = buf;
+    while !rest.is_empty() {
+        match input.read(rest) {
+            Ok(0) | Err(_) => break,
+            Ok(n) => rest = &mut rest[n..],
         }
-        done += n;
     }
-    done
-}
-
-// One buffer of 1,024 records.
-fn buffer(rt: &HostRuntime, r: Run, text: &mut [u8], store: &mut [u8]) -> Run
-    requires { (length text.old ≡ 16384) × (r.fill ≤ 16384) }
-    ensures { Took r text.old store.old text.new store.new result }
-{
-    let mut input = [0u8; 13312];
-    let n = read_full(rt, &mut input);
-    taken(rt, r, &input[..n], text, store)
-}
-
-// The whole input. Nothing says that it ends, so the turns are counted down from a number that no run uses up.
-fn input(rt: &HostRuntime, r: Run, text: &mut [u8], store: &mut [u8]) -> Run
-    requires { (length text.old ≡ 16384) × (r.fill ≤ 16384) }
-    ensures { Took r text.old store.old text.new store.new result }
-{
-    let mut now = r;
-    let mut turns = u64::MAX;
-    while 0 < turns && now.more {
-        now = buffer(rt, now, text, store);
-        turns -= 1;
-    }
-    now
-}
-
-// The text up to the end of the last line.
-fn last(rt: &HostRuntime, r: Run, text: &[u8], end: usize)
-    requires { (end ≤ length text.now) × (take end text.now ≡ take r.fill text.now ++ Text.end_line r.records r.frames) }
-{
-    hand_over_last(rt, r, text, &text[..end]);
-}
-
-// The last line.
-fn close(rt: &HostRuntime, r: Run, text: &mut [u8])
-    requires { (length text.old ≡ 16384) × (r.fill ≤ 16384) }
-    ensures { Ended r text.old text.new }
-{
-    let ready = with_room(rt, r, text);
-    let end = end_line(text, ready.fill, ready.records, ready.frames);
-    last(rt, ready, text, end);
-}
-
-// The power-on and the whole input, from a store of zeros.
-fn whole_run(rt: &HostRuntime, text: &mut [u8], store: &mut [u8]) -> Run
-    requires { (length text.old ≡ 16384) × (store.old ≡ zero_store) }
-    ensures { Whole text.new result }
-{
-    let t = begin(text, store);
-    let state = t.state;
-    let start = Run {
-        state,
-        records: 0,
-        frames: t.frames,
-        fill: t.at,
-        more: true,
-        open: true,
-    };
-    input(rt, start, text, store)
-}
-
-// The whole run, and then the last line.
-fn to_end(rt: &HostRuntime, text: &mut [u8], store: &mut [u8])
-    requires { (length text.old ≡ 16384) × (store.old ≡ zero_store) }
-    ensures { Done text.new }
-{
-    let end = whole_run(rt, text, store);
-    close(rt, end, text);
+    len - rest.len()
 }
 
 // A store of zeros, the power-on, the records, the last line.
 fn main(rt: HostRuntime) {
-    let mut text = [0u8; 16384];
-    let mut store = [0u8; 64];
-    to_end(&rt, &mut text, &mut store);
+    let mut text = [0u8; TEXT];
+    let mut store = [0u8; STORE];
+    Run::to_end(&rt, &mut text, &mut store);
 }

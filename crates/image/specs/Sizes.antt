@@ -1,8 +1,10 @@
 -- An image by the sizes of its records. Assumes nothing.
-use Rattle.std.specs.Prelude.{ℕ, ◌≤◌, ◌≡◌, cond, List, eqb}
+use Rattle.std.specs.Prelude.{ℕ, ◌+◌, ◌≤◌, ◌≡◌, cond, List, eqb, length}
 use Rattle.model.specs.declared.Group.TheVariants.{C, A}
+use Rattle.model.specs.Bytes.{part}
 use Rattle.model.specs.Store.{size_n, size_of_record, length_at}
 use Rattle.image.specs.declared.Sizes.{Sizes}
+use Rattle.image.specs.declared.Records.{Records}
 
 -- the place of a record of this size, as the trailer has it
 abbrev pub place_by : ℕ → ℕ → ℕ
@@ -27,3 +29,12 @@ pub record Most (s : Sizes) : Type 0 where
 pub record Sized (image : List ℕ) (s : Sizes) : Type 0 where
   pub told : s ≡ sizes_in image
   pub most : Most s
+
+-- r are the parts of an image that records of these sizes are
+pub record Within (image : List ℕ) (s : Sizes) (r : Records) : Type 0 where
+  pub n : r.n.now ≡ part 0 s.n image
+  pub c : r.c.now ≡ part s.n s.c image
+  pub a : r.a.now ≡ part (s.n + s.c) s.a image
+  pub long_n : length r.n.now ≡ s.n
+  pub long_c : length r.c.now ≡ s.c
+  pub long_a : length r.a.now ≡ s.a

@@ -5,18 +5,18 @@ use mathlib.Core.List.{List}
 use Prim.Native.Nat.{ℕ}
 use lib.Dec.{eqb}
 use borrow.Author.Tests.{eqb-true, not-false}
+use Rattle.std.proofs.Common.{Option, Result, Ok, Err}
 use Rattle.model.specs.declared.Value.{Value}
 use Rattle.model.specs.declared.Parameter.{Parameter}
 use Rattle.model.specs.declared.Group.{Group}
 use Rattle.model.specs.declared.Group.TheVariants.{C, A}
 use Rattle.model.specs.declared.Verdict.{Verdict}
 use Rattle.model.specs.declared.Verdict.TheVariants.{Inside, Outside, Above, Below}
+use Rattle.model.specs.declared.Entry.{Entry}
 use Rattle.model.specs.declared.Entry.TheVariants.{Fixed, Name, Shown, Setting, SaveWord, LoadWord}
-use Rattle.model.specs.declared.Found.{Found}
-use Rattle.model.specs.declared.Found.TheVariants.{NoObject, NoSub, At}
+use Rattle.model.specs.declared.Missing.{Missing}
 use Rattle.model.specs.declared.Change.{Change}
 use Rattle.model.specs.declared.Change.TheVariants.{Keep, Write, Save, TakeOut, Load, SavePending}
-use Rattle.model.specs.declared.Checked.{Checked}
 use Rattle.model.specs.declared.Service.{Service}
 use Rattle.model.specs.declared.Service.TheVariants.{Nothing, Tick, Sample, Nmt, Sync, Remote, Sdo, Lss}
 use Rattle.model.specs.declared.SdoRequest.{SdoRequest}
@@ -83,14 +83,13 @@ range_told Outside = refl
 range_told Above = refl
 range_told Below = refl
 
-pub asked_allowed : (s : State) → rules s ≡ true → (f : Found) (size d : ℕ) → write_code f size d s ≡ 0 → Allowed (asked f d) s
+pub asked_allowed : (s : State) → rules s ≡ true → (f : Result Entry Missing) (size : Option ℕ) (d : ℕ) → write_code f size d s ≡ 0 → Allowed (asked f d) s
 unfolding write_code
-asked_allowed s r NoObject size d e = tt
-asked_allowed s r NoSub size d e = tt
-asked_allowed s r (At (Fixed v)) size d e = tt
-asked_allowed s r (At Name) size d e = tt
-asked_allowed s r (At (Shown l)) size d e = tt
-asked_allowed s r (At (Setting p)) size d e =
+asked_allowed s r (Err m) size d e = tt
+asked_allowed s r (Ok (Fixed v)) size d e = tt
+asked_allowed s r (Ok Name) size d e = tt
+asked_allowed s r (Ok (Shown l)) size d e = tt
+asked_allowed s r (Ok (Setting p)) size d e =
     let n = hit_zero _ (rw (range_told (judge (row p).range (decoded (row p).kind d))) refl) e in
     record {
       fine =
@@ -101,8 +100,8 @@ asked_allowed s r (At (Setting p)) size d e =
       unlocked = n.0;
       honestly = n.1.1.1.1.0;
     }
-asked_allowed s r (At (SaveWord gs)) size d e = r
-asked_allowed s r (At (LoadWord gs)) size d e = let n = hit_zero _ refl e in n.0
+asked_allowed s r (Ok (SaveWord gs)) size d e = r
+asked_allowed s r (Ok (LoadWord gs)) size d e = let n = hit_zero _ refl e in n.0
 
 -- ---- each service
 
@@ -112,7 +111,7 @@ May s c = Allowed c s
 sdo_allowed : (s : State) → rules s ≡ true → (q : SdoRequest) → Allowed (sdo_change q s) s
 unfolding sdo_change checked_write
 sdo_allowed s r (R.Download index sub size d) =
-    cond_case (λ (x : Checked). Allowed (change_in x) s) (eqb (write_code (find index sub) size d s) 0)
+    cond_case (λ (x : Result Change ℕ). Allowed (change_in x) s) (eqb (write_code (find index sub) size d s) 0)
     (λ e. asked_allowed s r (find index sub) size d (eqb-true _ 0 e))
     (λ _. tt)
 sdo_allowed s r (R.Upload index sub) = tt

@@ -5,17 +5,19 @@ use mathlib.Core.List.{List}
 use mathlib.Core.Logic.{◌⊎◌, inl, inr, ⊎_elim}
 use Prim.Native.Nat.{ℕ, ◌+◌, ◌-◌, ◌≤◌}
 use native.Mathlib.Omega.{arith}
+use Rattle.std.specs.Prelude.{Option, Some, None}
 use lib.Dec.{eqb, leb, ltb}
 use borrow.Author.Tests.{eqb-true, eqb-false, leb-true, le-leb, leb-false, lt-ltb}
+use Rattle.std.proofs.Common.{Result, Ok, Err}
 use Rattle.model.specs.declared.Groups.{Groups}
 use Rattle.model.specs.declared.Groups.TheVariants.{Both, OnlyC, OnlyA}
 use Rattle.model.specs.declared.Timer.{Timer}
-use Rattle.model.specs.declared.Timer.TheVariants.{NoTimer, Heartbeat, Tpdo, Srdo}
+use Rattle.model.specs.declared.Timer.TheVariants.{Heartbeat, Tpdo, Srdo}
 use Rattle.model.specs.declared.Transmission.{Transmission}
 use Rattle.model.specs.declared.Transmission.TheVariants.{OnSample, OnSyncs, OnRemote, Timed, Never}
+use Rattle.model.specs.declared.Entry.{Entry}
 use Rattle.model.specs.declared.Entry.TheVariants.{Fixed, Name, Shown, Setting, SaveWord, LoadWord}
-use Rattle.model.specs.declared.Found.{Found}
-use Rattle.model.specs.declared.Found.TheVariants.{NoObject, NoSub, At}
+use Rattle.model.specs.declared.Missing.{Missing}
 use Rattle.model.specs.declared.Service.{Service}
 use Rattle.model.specs.declared.Service.TheVariants.{Nothing, Tick, Sample, Nmt, Sync, Remote, Sdo, Lss}
 use Rattle.model.specs.declared.SdoRequest.{SdoRequest}
@@ -146,15 +148,14 @@ start_sync kind k c h =
 
 -- ---- SDO: the open upload
 
-opened_ok : (f : Found) → UploadOk (opened f)
-opened_ok NoObject = refl
-opened_ok NoSub = refl
-opened_ok (At (Fixed v)) = refl
-opened_ok (At Name) = refl
-opened_ok (At (Shown l)) = refl
-opened_ok (At (Setting p)) = refl
-opened_ok (At (SaveWord gs)) = refl
-opened_ok (At (LoadWord gs)) = refl
+opened_ok : (f : Result Entry Missing) → UploadOk (opened f)
+opened_ok (Err m) = refl
+opened_ok (Ok (Fixed v)) = refl
+opened_ok (Ok Name) = refl
+opened_ok (Ok (Shown l)) = refl
+opened_ok (Ok (Setting p)) = refl
+opened_ok (Ok (SaveWord gs)) = refl
+opened_ok (Ok (LoadWord gs)) = refl
 
 three : (a b c : Bool) → a || (b || c) ≡ true → (a ≡ true) ⊎ ((b ≡ true) ⊎ (c ≡ true))
 three true b c h = inl refl
@@ -314,23 +315,23 @@ heard_sync (Lss r) s h = cond_case (CountOk (communication s).tpdo.kind) (is_pre
 
 -- ---- a timer's restart, and a reset
 
-pub restart_core : (t : Timer) (c : Core) → CoreOk c → CoreOk (restart t c)
-restart_core NoTimer c h = h
-restart_core Heartbeat c h = h
-restart_core Tpdo c h = h
-restart_core Srdo c h = h
+pub restart_core : (t : Option Timer) (c : Core) → CoreOk c → CoreOk (restart t c)
+restart_core None c h = h
+restart_core (Some Heartbeat) c h = h
+restart_core (Some Tpdo) c h = h
+restart_core (Some Srdo) c h = h
 
-pub restart_nmt : (t : Timer) (c : Core) → (restart t c).nmt ≡ c.nmt
-restart_nmt NoTimer c = refl
-restart_nmt Heartbeat c = refl
-restart_nmt Tpdo c = refl
-restart_nmt Srdo c = refl
+pub restart_nmt : (t : Option Timer) (c : Core) → (restart t c).nmt ≡ c.nmt
+restart_nmt None c = refl
+restart_nmt (Some Heartbeat) c = refl
+restart_nmt (Some Tpdo) c = refl
+restart_nmt (Some Srdo) c = refl
 
-pub restart_sync : (t : Timer) (kind : ℕ) (c : Core) → CountOk kind c → CountOk kind (restart t c)
-restart_sync NoTimer kind c h = h
-restart_sync Heartbeat kind c h = h
-restart_sync Tpdo kind c h = zero_sync kind
-restart_sync Srdo kind c h = h
+pub restart_sync : (t : Option Timer) (kind : ℕ) (c : Core) → CountOk kind c → CountOk kind (restart t c)
+restart_sync None kind c h = h
+restart_sync (Some Heartbeat) kind c h = h
+restart_sync (Some Tpdo) kind c h = zero_sync kind
+restart_sync (Some Srdo) kind c h = h
 
 readied_ok : (gs : Groups) (id : ℕ) (st : List ℕ) (c : Core) → node_id id ≡ true → CoreOk c
     → IdsOk (readied gs id (read st) c).active (readied gs id (read st) c).pending × BitsOk (readied gs id (read st) c).active (readied gs id (read st) c).pending

@@ -5,16 +5,17 @@ use mathlib.Core.Bool.{Bool, true, false, ◌&&◌, not, cond}
 use mathlib.Core.List.{List, [], ◌∷◌, ◌++◌}
 use Prim.Native.Nat.{ℕ, ◌+◌, ◌≤◌}
 use native.Mathlib.Omega.{arith}
+use Rattle.std.specs.Prelude.{Option, Some, None}
 use lib.Dec.{eqb}
 use borrow.Author.Tests.{eqb-true, eq-eqb, ne_eqb}
+use Rattle.std.proofs.Common.{Ok, Err}
 use Rattle.model.specs.declared.Group.TheVariants.{C}
 use Rattle.model.specs.declared.Groups.{Groups}
 use Rattle.model.specs.declared.Groups.TheVariants.{Both, OnlyC, OnlyA}
 use Rattle.model.specs.declared.Timer.{Timer}
-use Rattle.model.specs.declared.Timer.TheVariants.{NoTimer, Heartbeat, Tpdo, Srdo}
+use Rattle.model.specs.declared.Timer.TheVariants.{Heartbeat, Tpdo, Srdo}
 use Rattle.model.specs.declared.Change.{Change}
 use Rattle.model.specs.declared.Change.TheVariants.{Keep, Write, Save, TakeOut, Load, SavePending}
-use Rattle.model.specs.declared.Checked.TheVariants.{Refused, Accepted}
 use Rattle.model.specs.declared.Service.{Service}
 use Rattle.model.specs.declared.Service.TheVariants.{Nothing, Tick, Sample, Nmt, Sync, Remote, Sdo, Lss}
 use Rattle.model.specs.declared.SdoRequest.{SdoRequest}
@@ -51,11 +52,11 @@ use Rattle.laws.proofs.LookBack.{id_after, pair_after}
 abbrev BothAs : Core → Core → Type 0
 BothAs c d = (d.active ≡ c.active) × (d.pending ≡ c.pending)
 
-restart_both : (t : Timer) (c : Core) → BothAs c (restart t c)
-restart_both NoTimer c = (refl, refl)
-restart_both Heartbeat c = (refl, refl)
-restart_both Tpdo c = (refl, refl)
-restart_both Srdo c = (refl, refl)
+restart_both : (t : Option Timer) (c : Core) → BothAs c (restart t c)
+restart_both None c = (refl, refl)
+restart_both (Some Heartbeat) c = (refl, refl)
+restart_both (Some Tpdo) c = (refl, refl)
+restart_both (Some Srdo) c = (refl, refl)
 
 start_both : (k : Settings) (c : Core) → BothAs c (start k c)
 unfolding start
@@ -173,7 +174,7 @@ unfolding sdo_deed sdo_reply sdo_change checked_write
 sdo_deed_lem s more q (R.Download index sub size d) = go (eqb (write_code (find index sub) size d s) 0)
   where
     go : (b : Bool)
-        → let x = cond b (Accepted (asked (find index sub) d)) (Refused (write_code (find index sub) size d s)) in
+        → let x = cond b (Ok (asked (find index sub) d)) (Err (write_code (find index sub) size d s)) in
         cond (acknowledges (id_of s) (write_reply x index sub s)) (asked (find index sub) d) Keep ≡ change_in x
     go true = rw (eq-eqb (sdo_replies + id_of s) (sdo_replies + id_of s) refl) refl
     go false = rw (and_false (eqb (sdo_replies + id_of s) (sdo_replies + id_of s))) refl

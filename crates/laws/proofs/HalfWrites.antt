@@ -10,9 +10,9 @@ use Prim.Native.Nat.{ℕ}
 use lib.Dec.{eqb}
 use lib.ListN.{length}
 use borrow.Author.Tests.{eqb-true, ne_eqb}
+use Rattle.std.proofs.Common.{Ok, Err}
 use Rattle.model.specs.declared.Change.{Change}
 use Rattle.model.specs.declared.Change.TheVariants.{Keep}
-use Rattle.model.specs.declared.Checked.TheVariants.{Refused, Accepted}
 use Rattle.model.specs.declared.Service.{Service}
 use Rattle.model.specs.declared.Service.TheVariants.{Nothing, Tick, Sample, Nmt, Sync, Remote, Sdo, Lss}
 use Rattle.model.specs.declared.SdoRequest.{SdoRequest}
@@ -48,7 +48,7 @@ unfolding sdo_change sdo_reply checked_write
 sdo_told (R.Download index sub size d) s sv more = go (eqb (write_code (find index sub) size d s) accepted)
   where
     go : (b : Bool)
-        → let c = cond b (Accepted (asked (find index sub) d)) (Refused (write_code (find index sub) size d s)) in
+        → let c = cond b (Ok (asked (find index sub) d)) (Err (write_code (find index sub) size d s)) in
         Told (Sdo (id_of s) (R.Download index sub size d)) s sv (change_in c) (write_reply c index sub s ∷ more)
     go true = inr (written index sub size d refl)
     go false = inl refl

@@ -6,17 +6,16 @@ use mathlib.Core.List.{List, [], ◌∷◌, ◌++◌}
 use Prim.Native.Nat.{ℕ, ◌+◌, ◌%◌, ◌≤◌}
 use native.Mathlib.Omega.{arith}
 use lib.Dec.{eqb}
+use Rattle.std.proofs.Common.{Result, Ok, Err}
 use Rattle.model.specs.declared.Parameter.TheVariants.{P1301s5, P1301s6}
 use Rattle.model.specs.declared.Group.TheVariants.{C}
 use Rattle.model.specs.declared.Groups.TheVariants.{Both}
 use Rattle.model.specs.declared.Change.{Change}
 use Rattle.model.specs.declared.Change.TheVariants.{Keep, Write, Save, TakeOut, Load, SavePending}
-use Rattle.model.specs.declared.Found.{Found}
-use Rattle.model.specs.declared.Found.TheVariants.{NoObject, NoSub, At}
+use Rattle.model.specs.declared.Entry.{Entry}
+use Rattle.model.specs.declared.Missing.{Missing}
 use Rattle.model.specs.declared.Content.{Content}
 use Rattle.model.specs.declared.Content.TheVariants.{Text, Plain}
-use Rattle.model.specs.declared.Checked.{Checked}
-use Rattle.model.specs.declared.Checked.TheVariants.{Refused, Accepted}
 use Rattle.model.specs.declared.Service.{Service}
 use Rattle.model.specs.declared.Service.TheVariants.{Nothing, Tick, Sample, Nmt, Sync, Remote, Sdo, Lss}
 use Rattle.model.specs.declared.SdoRequest.{SdoRequest}
@@ -49,18 +48,17 @@ use Rattle.laws.proofs.RulesKept.{unborn_rules}
 
 -- ---- SDO replies
 
-pub read_id : (f : Found) (index sub : ℕ) (s : State) → (read_from f index sub s).id ≡ sdo_replies + id_of s
-read_id NoObject index sub s = refl
-read_id NoSub index sub s = refl
-read_id (At e) index sub s = go (content_of e s)
+pub read_id : (f : Result Entry Missing) (index sub : ℕ) (s : State) → (read_from f index sub s).id ≡ sdo_replies + id_of s
+read_id (Err m) index sub s = refl
+read_id (Ok e) index sub s = go (content_of e s)
   where
     go : (c : Content) → (uploaded c index sub s).id ≡ sdo_replies + id_of s
     go Text = refl
     go (Plain x) = refl
 
-pub write_id : (c : Checked) (index sub : ℕ) (s : State) → (write_reply c index sub s).id ≡ sdo_replies + id_of s
-write_id (Refused code) index sub s = refl
-write_id (Accepted c) index sub s = refl
+pub write_id : (c : Result Change ℕ) (index sub : ℕ) (s : State) → (write_reply c index sub s).id ≡ sdo_replies + id_of s
+write_id (Ok c) index sub s = refl
+write_id (Err code) index sub s = refl
 
 pub segment_id : (toggle : ℕ) (s : State) → (segment_reply toggle s).id ≡ sdo_replies + id_of s
 unfolding segment_reply

@@ -6,6 +6,7 @@ use mathlib.Core.List.{List, [], ◌∷◌}
 use Prim.Native.Nat.{ℕ}
 use lib.Dec.{eqb}
 use lib.ListN.{length}
+use Rattle.std.specs.Prelude.{Option, Some, None}
 use Rattle.model.specs.declared.Group.TheVariants.{C, A}
 use Rattle.model.specs.declared.Groups.{Groups}
 use Rattle.model.specs.declared.Groups.TheVariants.{Both, OnlyC, OnlyA}
@@ -14,7 +15,7 @@ use Rattle.model.specs.declared.Change.TheVariants.{Keep, Write, Save, TakeOut, 
 use Rattle.model.specs.declared.Service.{Service}
 use Rattle.model.specs.declared.Service.TheVariants.{Nothing, Tick, Sample, Nmt, Sync, Remote, Sdo, Lss}
 use Rattle.model.specs.declared.Timer.{Timer}
-use Rattle.model.specs.declared.Timer.TheVariants.{NoTimer, Heartbeat, Tpdo, Srdo}
+use Rattle.model.specs.declared.Timer.TheVariants.{Heartbeat, Tpdo, Srdo}
 use Rattle.model.specs.declared.Fv.{Fv}
 use Rattle.model.specs.declared.Frame.{Frame}
 use Rattle.model.specs.declared.Identity.{Identity}
@@ -63,11 +64,11 @@ heard_fv (Remote to) s = cond_case (SameFv s.core) (answers_remote to s) (λ _. 
 heard_fv (Sdo to r) s = cond_case (SameFv s.core) (serves to s) (λ _. refl) (λ _. refl)
 heard_fv (Lss r) s = cond_case (SameFv s.core) (is_pre_operational s.core) (λ _. refl) (λ _. refl)
 
-restart_fv : (t : Timer) (c : Core) → (restart t c).fv ≡ c.fv
-restart_fv NoTimer c = refl
-restart_fv Heartbeat c = refl
-restart_fv Tpdo c = refl
-restart_fv Srdo c = refl
+restart_fv : (t : Option Timer) (c : Core) → (restart t c).fv ≡ c.fv
+restart_fv None c = refl
+restart_fv (Some Heartbeat) c = refl
+restart_fv (Some Tpdo) c = refl
+restart_fv (Some Srdo) c = refl
 
 readied_fv : (gs : Groups) (id : ℕ) (sv : Saved) (c : Core) → has gs C ≡ true → (readied gs id sv c).fv ≡ cond (has gs A) zero_fv c.fv
 unfolding readied

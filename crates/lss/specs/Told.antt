@@ -1,17 +1,11 @@
--- What this crate's own type tells, and the part of the identity that is named. Assumes nothing.
-use Rattle.std.specs.Prelude.{ℕ, Bool, List}
+-- The part of the identity that a request names. Assumes nothing.
+use Rattle.std.specs.Prelude.{ℕ}
 use Rattle.model.specs.declared.LssRequest.{LssRequest}
 use Rattle.model.specs.declared.LssRequest.TheVariants.{SwitchMode, Select, SetNodeId, SetBitIndex, StorePending, AskIdentity, AskNodeId, OtherLss}
 use Rattle.model.specs.declared.Service.{Service}
 use Rattle.model.specs.declared.Service.TheVariants.{Nothing, Tick, Sample, Nmt, Sync, Remote, Sdo, Lss}
-use Rattle.model.specs.Lss.{answered}
-use Rattle.model.specs.declared.Reply.{Reply}
 
--- an answer of these bytes, where it is sent
-abbrev pub told : Bool → List ℕ → Reply
-told send d = record { send = send; frame = answered d }
-
--- counted from 0; 0 for a request that names none
+-- the part of the identity, counted from 0; 0 for a request that names none
 abbrev pub part_of : LssRequest → ℕ
 part_of (SwitchMode mode) = 0
 part_of (Select n number) = n

@@ -2,17 +2,17 @@
 #![tactic(auto)]
 
 ghost use Rattle.std.specs.Prelude.{◌≡◌, [], ◌∷◌, ◌≤◌};
-ghost use Rattle.model.specs.Bytes.{low_bytes};
 ghost use Rattle.model.specs.Frames.{frames_of};
 ghost use Rattle.model.specs.Lss as Lss;
-ghost use Rattle.lss.specs.Told.{told, part_of};
+ghost use Rattle.lss.specs.Told.{part_of};
 
-use model::{Address, Change, Core, Frame, Identity, LssRequest, Reply, Selection, State};
+use model::{Address, Change, Core, Frame, Identity, LssRequest, Selection, State};
 use wire::address::{is_bit_index, is_node_id};
 
 // ---- Selection
 
-// The four numbers of the identity, from 0.
+// The four numbers of the identity, from 0. A part stays a number: what `identity_part` and `matches` say of every one, and `LssRequest`, may not change.
+#[tactic(auto, unfolding(model::specs::Lss::identity_part, model::specs::Choice::first_hit))]
 fn identity_part(n: u8, i: Identity) -> u32
     ensures { result ≡ Lss.identity_part n i }
 {
@@ -25,6 +25,7 @@ fn identity_part(n: u8, i: Identity) -> u32
 }
 
 // A number that matches and is the next one; the first counts as next at any time.
+#[tactic(auto, unfolding(model::specs::Lss::matches))]
 fn matches(n: u8, number: u32, s: State) -> bool
     ensures { result ≡ Lss.matches n number s }
 {
@@ -42,6 +43,7 @@ fn selects(n: u8, number: u32, s: State) -> bool
 }
 
 // The selection after a number: back to none where it doesn't match.
+#[tactic(auto, unfolding(model::specs::Lss::selection_after, model::specs::Lss::matches))]
 fn selection_after(n: u8, number: u32, s: State) -> Selection
     requires { s.core.lss.progress ≤ 3 }
     ensures { result ≡ Lss.selection_after n number s }
@@ -65,7 +67,8 @@ fn selection_after(n: u8, number: u32, s: State) -> Selection
     }
 }
 
-// Mode 0 is waiting, 1 configuration; another changes nothing.
+// Mode 0 is waiting, 1 configuration; another changes nothing. It stays the byte of the frame, of which `mode_after` says what each value does.
+#[tactic(auto, unfolding(model::specs::Lss::mode_after, model::specs::Choice::first_hit))]
 fn mode_after(mode: u8, on: bool) -> bool
     ensures { result ≡ Lss.mode_after mode on }
 {
@@ -77,6 +80,7 @@ fn mode_after(mode: u8, on: bool) -> bool
 }
 
 // The LSS state after a request: every one but the next number restarts the progress.
+#[tactic(auto, unfolding(model::specs::Lss::lss_after))]
 pub fn lss_after(request: LssRequest, s: State) -> Selection
     requires { s.core.lss.progress ≤ 3 }
     ensures { result ≡ Lss.lss_after request s }
@@ -108,6 +112,7 @@ fn bit_in_table(table: u8, bit: u8) -> bool
 }
 
 // The pending pair, with another ID or another bit index where that is allowed.
+#[tactic(auto, unfolding(model::specs::Lss::pending_after))]
 pub fn pending_after(request: LssRequest, s: State) -> Address
     ensures { result ≡ Lss.pending_after request s }
 {
@@ -131,6 +136,7 @@ pub fn pending_after(request: LssRequest, s: State) -> Address
 }
 
 // 17h stores the pending pair.
+#[tactic(auto, unfolding(model::specs::Lss::lss_change))]
 pub fn lss_change(request: LssRequest, s: State) -> Change
     ensures { result ≡ Lss.lss_change request s }
 {
@@ -160,76 +166,52 @@ pub fn lss_served(request: LssRequest, s: State) -> Core
 
 // ---- The answers
 
-// An answer of a command byte and one more.
-fn tell(send: bool, command: u8, value: u8) -> Reply
-    ensures { result ≡ told send (command ∷ value ∷ []) }
+// An answer of a command byte and four more, with zeros after them.
+fn answer(command: u8, bytes: [u8; 4]) -> Frame
+    ensures { result ≡ Lss.answered (command ∷ bytes) }
 {
-    let frame = Frame {
-        id: 0x7e4,
-        len: 8,
-        d0: command,
-        d1: value,
-        d2: 0,
-        d3: 0,
-        d4: 0,
-        d5: 0,
-        d6: 0,
-        d7: 0,
-    };
-    Reply { send, frame }
+    let [b0, b1, b2, b3] = bytes;
+    Frame::new(0x7e4, 8, [command, b0, b1, b2, b3, 0, 0, 0])
 }
 
-// An answer of a command byte and a number.
-fn tell_number(send: bool, command: u8, x: u32) -> Reply
-    ensures { result ≡ told send (command ∷ low_bytes 4 x) }
+// An answer of a command byte and one more.
+fn answer_byte(command: u8, value: u8) -> Frame
+    ensures { result ≡ Lss.answered (command ∷ value ∷ []) }
 {
-    let x1 = x / 256;
-    let x2 = x1 / 256;
-    let x3 = x2 / 256;
-    let frame = Frame {
-        id: 0x7e4,
-        len: 8,
-        d0: command,
-        d1: (x % 256) as u8,
-        d2: (x1 % 256) as u8,
-        d3: (x2 % 256) as u8,
-        d4: (x3 % 256) as u8,
-        d5: 0,
-        d6: 0,
-        d7: 0,
-    };
-    Reply { send, frame }
+    answer(command, [value, 0, 0, 0])
 }
 
 // The error byte.
 fn error_unless(allowed: bool) -> u8
     ensures { result ≡ Lss.error_unless allowed }
 {
-    if allowed { 0 } else { 1 }
+    u8::from(!allowed)
 }
 
 // The selection is answered by 44h in both states, and else only configuration answers.
 // An event names a part of 0 to 3: else 5Ah and the part might be no byte.
-pub fn lss_reply(request: LssRequest, s: State) -> Reply
+#[tactic(auto, using(wire::proofs::Lay::frames_when, model::proofs::Numbers::low_of_32), unfolding(model::specs::Lss::lss_reply))]
+pub fn lss_reply(request: LssRequest, s: State) -> Option<Frame>
     requires { part_of request ≤ 3 }
     ensures { frames_of result ≡ Lss.lss_reply request s }
 {
     let on = s.core.lss.configuration;
     match request {
-        LssRequest::Select { part, number } => tell(selects(part, number, s), 0x44, 0),
-        LssRequest::SetNodeId(id) => tell(on, 0x11, error_unless(is_node_id(id))),
-        LssRequest::SetBitIndex { table, bit } => tell(
-            on,
-            0x13,
-            error_unless(bit_in_table(table, bit)),
-        ),
-        LssRequest::StorePending => tell(on, 0x17, 0),
-        LssRequest::AskIdentity(n) => {
-            let i = s.identity;
-            tell_number(on, 0x5a + n, identity_part(n, i))
+        LssRequest::Select { part, number } => {
+            selects(part, number, s).then_some(answer_byte(0x44, 0))
         }
-        LssRequest::AskNodeId => tell(on, 0x5e, s.core.active.id),
-        LssRequest::SwitchMode(_) => tell(false, 0, 0),
-        LssRequest::OtherLss => tell(false, 0, 0),
+        LssRequest::SetNodeId(id) => {
+            on.then_some(answer_byte(0x11, error_unless(is_node_id(id))))
+        }
+        LssRequest::SetBitIndex { table, bit } => {
+            on.then_some(answer_byte(0x13, error_unless(bit_in_table(table, bit))))
+        }
+        LssRequest::StorePending => on.then_some(answer_byte(0x17, 0)),
+        LssRequest::AskIdentity(n) => {
+            let number = identity_part(n, s.identity);
+            on.then_some(answer(0x5a + n, number.to_le_bytes()))
+        }
+        LssRequest::AskNodeId => on.then_some(answer_byte(0x5e, s.core.active.id)),
+        LssRequest::SwitchMode(_) | LssRequest::OtherLss => None,
     }
 }

@@ -1,5 +1,5 @@
 -- The user's third demand as a whole, of the world after a run, of a node, and of a single event. Assumes nothing.
-use Rattle.std.specs.Prelude.{ℕ, ◌≡◌, true, List, [], ◌∷◌, length}
+use Rattle.std.specs.Prelude.{Option, ℕ, ◌≡◌, true, List, [], ◌∷◌, length}
 use Rattle.model.specs.declared.Parameter.{Parameter}
 use Rattle.model.specs.declared.Groups.TheVariants.{Both, OnlyC}
 use Rattle.model.specs.declared.Change.{Change}
@@ -53,7 +53,7 @@ Meets node =
 -- these frames, which answer the service v in the state s with sv saved, begin with the frame that accepts a request for the change c: 60h of a
 -- download, the boot-up of a reset with the ID that it makes active, or 17h's answer
 pub data Accepts (v : Service) (s : State) (sv : Saved) : Change → List Frame → Type 0 where
-  written : (index sub size d : ℕ) {fs : List Frame} → v ≡ Sdo (id_of s) (R.Download index sub size d)
+  written : (index sub : ℕ) (size : Option ℕ) (d : ℕ) {fs : List Frame} → v ≡ Sdo (id_of s) (R.Download index sub size d)
       → Accepts v s sv (asked (find index sub) d) (acknowledged index sub s ∷ fs)
   reset_node : (to : ℕ) {fs : List Frame} → v ≡ Nmt reset_node_command to → is_for to (id_of s) ≡ true
       → Accepts v s sv (Load Both (address_from sv).id) (boot_up (address_from sv).id ∷ fs)

@@ -1,5 +1,5 @@
 -- Document 01, "Dictionary": every object and sub, and what each reads as. Assumes nothing.
-use Rattle.std.specs.Prelude.{ℕ, ◌+◌, cond, List, [], ◌∷◌, eqb}
+use Rattle.std.specs.Prelude.{ℕ, ◌+◌, cond, List, [], ◌∷◌, eqb, Result, Ok, Err}
 use Rattle.std.proofs.Common.{to_z}
 use Rattle.std.specs.Int.{w32}
 use Rattle.model.specs.declared.Value.{Value}
@@ -10,8 +10,8 @@ use Rattle.model.specs.declared.Live.{Live}
 use Rattle.model.specs.declared.Live.TheVariants.{ErrorRegister, EmcyId, Vendor, Product, Revision, Serial, SdoRequestId, SdoReplyId, TpdoId, PvBits, PvInverse, PvReal, FvCount, PvInteger}
 use Rattle.model.specs.declared.Entry.{Entry}
 use Rattle.model.specs.declared.Entry.TheVariants.{Fixed, Name, Shown, Setting, SaveWord, LoadWord}
-use Rattle.model.specs.declared.Found.{Found}
-use Rattle.model.specs.declared.Found.TheVariants.{NoObject, NoSub, At}
+use Rattle.model.specs.declared.Missing.{Missing}
+use Rattle.model.specs.declared.Missing.TheVariants.{NoObject, NoSub}
 use Rattle.model.specs.declared.Content.{Content}
 use Rattle.model.specs.declared.Content.TheVariants.{Text, Plain}
 use Rattle.model.specs.declared.State.{State}
@@ -87,22 +87,22 @@ objects =
 -- ---- Looking up
 
 -- the entry at a sub of a record
-abbrev pub sub_in : ℕ → List Sub → Found
-sub_in sub [] = NoSub
-sub_in sub (k holds e ∷ es) = cond (eqb sub k) (At e) (sub_in sub es)
+abbrev pub sub_in : ℕ → List Sub → Result Entry Missing
+sub_in sub [] = Err NoSub
+sub_in sub (k holds e ∷ es) = cond (eqb sub k) (Ok e) (sub_in sub es)
 
 -- the entry at a sub of an object; sub 0 of a record is read-only and tells its highest sub
-abbrev pub entry_in : ℕ → Object → Found
-entry_in sub (single e) = cond (eqb sub 0) (At e) NoSub
-entry_in sub (several highest es) = cond (eqb sub 0) (At (Fixed (U8 highest))) (sub_in sub es)
+abbrev pub entry_in : ℕ → Object → Result Entry Missing
+entry_in sub (single e) = cond (eqb sub 0) (Ok e) (Err NoSub)
+entry_in sub (several highest es) = cond (eqb sub 0) (Ok (Fixed (U8 highest))) (sub_in sub es)
 
 -- the entry at an index and sub of some objects
-abbrev pub found_in : ℕ → ℕ → List Place → Found
-found_in index sub [] = NoObject
+abbrev pub found_in : ℕ → ℕ → List Place → Result Entry Missing
+found_in index sub [] = Err NoObject
 found_in index sub (k ▸ o ∷ os) = cond (eqb index k) (entry_in sub o) (found_in index sub os)
 
 -- what stands at an index and sub
-unfoldable pub find : ℕ → ℕ → Found
+unfoldable pub find : ℕ → ℕ → Result Entry Missing
 find index sub = found_in index sub objects
 
 -- ---- Reading

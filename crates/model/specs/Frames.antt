@@ -1,7 +1,6 @@
 -- Document 01, "Events, frames and the answer": the bytes of an event, the bytes of a frame, and where frames are laid. Assumes nothing.
-use Rattle.std.specs.Prelude.{ℕ, zero, suc, ◌+◌, ◌*◌, ◌/◌, ◌%◌, Bool, true, false, List, [], ◌∷◌, ◌++◌, length, take, drop}
+use Rattle.std.specs.Prelude.{ℕ, zero, suc, ◌+◌, ◌*◌, ◌/◌, ◌%◌, Bool, true, false, List, [], ◌∷◌, ◌++◌, length, take, drop, Option, Some, None}
 use Rattle.model.specs.declared.Frame.{Frame}
-use Rattle.model.specs.declared.Reply.{Reply}
 use Rattle.model.specs.Bytes.{byte_at, number_at}
 
 -- ---- An event is 13 bytes: its kind (1 a frame, 2 a tick, 3 a sample), then twelve
@@ -107,9 +106,10 @@ abbrev pub when : Bool → Frame → List Frame
 when true f = f ∷ []
 when false f = []
 
--- the frames of a reply
-abbrev pub frames_of : Reply → List Frame
-frames_of r = when r.send r.frame
+-- the frames of a reply, which is at most one
+abbrev pub frames_of : Option Frame → List Frame
+frames_of None = []
+frames_of (Some f) = f ∷ []
 
 -- ---- Where frames are laid
 

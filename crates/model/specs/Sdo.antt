@@ -1,18 +1,18 @@
 -- Document 01, "SDO (CiA 301)": the write checks, what an accepted write changes, the replies, and the upload by segments. Assumes nothing.
-use Rattle.std.specs.Prelude.{ℕ, ◌+◌, ◌-◌, ◌*◌, Bool, true, cond, not, ◌&&◌, List, [], ◌∷◌, ◌++◌, eqb, leb, ltb, length}
+use Rattle.std.specs.Prelude.{ℕ, ◌+◌, ◌-◌, ◌*◌, Bool, true, cond, not, ◌&&◌, List, [], ◌∷◌, ◌++◌, eqb, leb, ltb, length, Option, Result, Ok, Err}
+use Rattle.std.specs.Option.{unwrap_or}
 use Rattle.model.specs.declared.Value.{Value}
 use Rattle.model.specs.declared.Kind.{Kind}
 use Rattle.model.specs.declared.Kind.TheVariants as K
 use Rattle.model.specs.declared.Parameter.{Parameter}
 use Rattle.model.specs.declared.Verdict.{Verdict}
 use Rattle.model.specs.declared.Verdict.TheVariants.{Inside, Outside, Above, Below}
+use Rattle.model.specs.declared.Entry.{Entry}
 use Rattle.model.specs.declared.Entry.TheVariants.{Fixed, Name, Shown, Setting, SaveWord, LoadWord}
-use Rattle.model.specs.declared.Found.{Found}
-use Rattle.model.specs.declared.Found.TheVariants.{NoObject, NoSub, At}
+use Rattle.model.specs.declared.Missing.{Missing}
+use Rattle.model.specs.declared.Missing.TheVariants.{NoObject, NoSub}
 use Rattle.model.specs.declared.Change.{Change}
 use Rattle.model.specs.declared.Change.TheVariants.{Keep, Write, Save, TakeOut}
-use Rattle.model.specs.declared.Checked.{Checked}
-use Rattle.model.specs.declared.Checked.TheVariants.{Refused, Accepted}
 use Rattle.model.specs.declared.Content.{Content}
 use Rattle.model.specs.declared.Content.TheVariants.{Text, Plain}
 use Rattle.model.specs.declared.SdoRequest.{SdoRequest}
@@ -93,8 +93,8 @@ abbrev pub load_word : ℕ
 load_word = 0x64616f6c
 
 -- the size of a write: the entry's own where none is indicated
-unfoldable pub size_for : Kind → ℕ → ℕ
-size_for k size = cond (eqb size 0) (width_of k) size
+unfoldable pub size_for : Kind → Option ℕ → ℕ
+size_for k size = unwrap_or size (width_of k)
 
 -- the code that tells how a value stands to its range
 abbrev pub range_code : Verdict → ℕ
@@ -109,7 +109,7 @@ unearned p v s =
     same p (validity_of (row p).group) && (eqb (number_of v) a5h && not (valid (row p).group (in_force s.settings)))
 
 -- a starred entry while Operational, then the length
-abbrev pub access_checks : Bool → Kind → ℕ → State → List (Arm ℕ)
+abbrev pub access_checks : Bool → Kind → Option ℕ → State → List (Arm ℕ)
 access_checks star k size s =
     (star && is_operational s.core ⇒ locked)
     ∷ (ltb (width_of k) (size_for k size) ⇒ too_long)
@@ -126,44 +126,42 @@ abbrev pub word_checks : ℕ → ℕ → List (Arm ℕ)
 word_checks word d = (not (eqb d word) ⇒ wrong_word) ∷ []
 
 -- the first two checks, which a read has too: what the look at index and sub finds
-abbrev pub found_code : Found → ℕ
-found_code NoObject = no_object
-found_code NoSub = no_sub
-found_code (At e) = accepted
+abbrev pub found_code : Result Entry Missing → ℕ
+found_code (Err NoObject) = no_object
+found_code (Err NoSub) = no_sub
+found_code (Ok e) = accepted
 
 -- the abort code of a write of four bytes d, of which `size` count, to what was found; or that it is accepted
-unfoldable pub write_code : Found → ℕ → ℕ → State → ℕ
-write_code NoObject size d s = found_code NoObject
-write_code NoSub size d s = found_code NoSub
-write_code (At (Fixed v)) size d s = read_only
-write_code (At Name) size d s = read_only
-write_code (At (Shown l)) size d s = read_only
-write_code (At (Setting p)) size d s =
+unfoldable pub write_code : Result Entry Missing → Option ℕ → ℕ → State → ℕ
+write_code (Err m) size d s = found_code (Err m)
+write_code (Ok (Fixed v)) size d s = read_only
+write_code (Ok Name) size d s = read_only
+write_code (Ok (Shown l)) size d s = read_only
+write_code (Ok (Setting p)) size d s =
     first_hit (access_checks (row p).star (row p).kind size s ++ value_checks p (decoded (row p).kind d) s) accepted
-write_code (At (SaveWord gs)) size d s = first_hit (access_checks true K.U32 size s ++ word_checks save_word d) accepted
-write_code (At (LoadWord gs)) size d s = first_hit (access_checks true K.U32 size s ++ word_checks load_word d) accepted
+write_code (Ok (SaveWord gs)) size d s = first_hit (access_checks true K.U32 size s ++ word_checks save_word d) accepted
+write_code (Ok (LoadWord gs)) size d s = first_hit (access_checks true K.U32 size s ++ word_checks load_word d) accepted
 
 -- ---- What a write changes, if it is accepted
 
 -- a parameter's value, a save of some groups, or their records taken out
-abbrev pub asked : Found → ℕ → Change
-asked NoObject d = Keep
-asked NoSub d = Keep
-asked (At (Fixed v)) d = Keep
-asked (At Name) d = Keep
-asked (At (Shown l)) d = Keep
-asked (At (Setting p)) d = Write p (decoded (row p).kind d)
-asked (At (SaveWord gs)) d = Save gs
-asked (At (LoadWord gs)) d = TakeOut gs
+abbrev pub asked : Result Entry Missing → ℕ → Change
+asked (Err m) d = Keep
+asked (Ok (Fixed v)) d = Keep
+asked (Ok Name) d = Keep
+asked (Ok (Shown l)) d = Keep
+asked (Ok (Setting p)) d = Write p (decoded (row p).kind d)
+asked (Ok (SaveWord gs)) d = Save gs
+asked (Ok (LoadWord gs)) d = TakeOut gs
 
--- a write that was checked: refused with its code, or accepted with what it changes
-unfoldable pub checked_write : Found → ℕ → ℕ → State → Checked
-checked_write f size d s = let code = write_code f size d s in cond (eqb code accepted) (Accepted (asked f d)) (Refused code)
+-- a write that was checked: what it changes, or the code that it is refused with
+unfoldable pub checked_write : Result Entry Missing → Option ℕ → ℕ → State → Result Change ℕ
+checked_write f size d s = let code = write_code f size d s in cond (eqb code accepted) (Ok (asked f d)) (Err code)
 
 -- the change of each answer
-abbrev pub change_in : Checked → Change
-change_in (Refused code) = Keep
-change_in (Accepted c) = c
+abbrev pub change_in : Result Change ℕ → Change
+change_in (Ok c) = c
+change_in (Err code) = Keep
 
 -- of all requests a download alone changes anything
 unfoldable pub sdo_change : SdoRequest → State → Change
@@ -206,10 +204,9 @@ uploaded Text index sub s = replied s (headed 0x41 index sub (low_bytes 4 (lengt
 uploaded (Plain v) index sub s = replied s (headed (expedited (kind_of v)) index sub (encoded v))
 
 -- a read has only the first two of the checks
-abbrev pub read_from : Found → ℕ → ℕ → State → Frame
-read_from NoObject index sub s = aborted index sub (found_code NoObject) s
-read_from NoSub index sub s = aborted index sub (found_code NoSub) s
-read_from (At e) index sub s = uploaded (content_of e s) index sub s
+abbrev pub read_from : Result Entry Missing → ℕ → ℕ → State → Frame
+read_from (Err m) index sub s = aborted index sub (found_code (Err m)) s
+read_from (Ok e) index sub s = uploaded (content_of e s) index sub s
 
 -- ---- The upload by segments, seven bytes each
 
@@ -256,9 +253,9 @@ abbrev pub serves : ℕ → State → Bool
 serves to s = eqb to (id_of s) && not (is_stopped s.core)
 
 -- the reply to a write
-abbrev pub write_reply : Checked → ℕ → ℕ → State → Frame
-write_reply (Refused code) index sub s = aborted index sub code s
-write_reply (Accepted c) index sub s = acknowledged index sub s
+abbrev pub write_reply : Result Change ℕ → ℕ → ℕ → State → Frame
+write_reply (Ok c) index sub s = acknowledged index sub s
+write_reply (Err code) index sub s = aborted index sub code s
 
 -- the reply to each request; a client's abort has none
 unfoldable pub sdo_reply : SdoRequest → State → List Frame
@@ -270,15 +267,14 @@ sdo_reply R.DownloadSegment s = aborted (open_index s.core.upload) 0 unknown_com
 sdo_reply (R.Unknown index sub) s = aborted index sub unknown_command s ∷ []
 
 -- an upload of the name opens one
-abbrev pub opened : Found → Upload
-opened NoObject = no_upload
-opened NoSub = no_upload
-opened (At (Fixed v)) = no_upload
-opened (At Name) = open_upload 0 0
-opened (At (Shown l)) = no_upload
-opened (At (Setting p)) = no_upload
-opened (At (SaveWord gs)) = no_upload
-opened (At (LoadWord gs)) = no_upload
+abbrev pub opened : Result Entry Missing → Upload
+opened (Err m) = no_upload
+opened (Ok (Fixed v)) = no_upload
+opened (Ok Name) = open_upload 0 0
+opened (Ok (Shown l)) = no_upload
+opened (Ok (Setting p)) = no_upload
+opened (Ok (SaveWord gs)) = no_upload
+opened (Ok (LoadWord gs)) = no_upload
 
 -- the upload after each request: only the next segment keeps an open one, and only a read of the name opens one
 unfoldable pub upload_after : SdoRequest → Upload → Upload

@@ -1,6 +1,6 @@
 -- What an event asks, by its bytes alone: no state is looked at here. Document 01, the opening sentences of "SDO", "NMT, time, SYNC" and "LSS".
 -- Assumes nothing.
-use Rattle.std.specs.Prelude.{ℕ, ◌+◌, ◌-◌, ◌/◌, ◌%◌, Bool, cond, ◌&&◌, List, [], ◌∷◌, eqb}
+use Rattle.std.specs.Prelude.{Option, Some, None, ℕ, ◌+◌, ◌-◌, ◌/◌, ◌%◌, Bool, cond, ◌&&◌, List, [], ◌∷◌, eqb}
 use Rattle.model.specs.declared.Service.{Service}
 use Rattle.model.specs.declared.Service.TheVariants.{Nothing, Tick, Sample, Nmt, Sync, Remote, Sdo, Lss}
 use Rattle.model.specs.declared.SdoRequest.{SdoRequest}
@@ -13,9 +13,9 @@ use Rattle.model.specs.Frames.{kind_of_event, sample_in, can_id, flag_in, length
 
 -- ---- SDO
 
--- the size that a download's first byte indicates: 4 less its unused bytes; 0 where it indicates none
-unfoldable pub size_in : ℕ → ℕ
-size_in b = cond (eqb (b % 2) 1) (4 - b / 4 % 4) 0
+-- the size that a download's first byte indicates, where it indicates one: 4 less its unused bytes
+unfoldable pub size_in : ℕ → Option ℕ
+size_in b = cond (eqb (b % 2) 1) (Some (4 - b / 4 % 4)) None
 
 -- by the top three bits of byte 0; index, sub and the four data bytes follow it. A download must be expedited; bits that a request does not use
 -- are ignored

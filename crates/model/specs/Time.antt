@@ -1,9 +1,9 @@
 -- Document 01, "NMT, time, SYNC", its second paragraph: heartbeat, TPDO, SRDO, SYNC, remote frames and EMCY. Assumes nothing.
-use Rattle.std.specs.Prelude.{ℕ, ◌+◌, Bool, true, false, cond, not, ◌&&◌, List, [], ◌∷◌, ◌++◌, eqb, leb}
+use Rattle.std.specs.Prelude.{ℕ, ◌+◌, Bool, true, false, cond, not, ◌&&◌, List, [], ◌∷◌, ◌++◌, eqb, leb, Option, Some, None}
 use Rattle.model.specs.declared.Parameter.{Parameter}
 use Rattle.model.specs.declared.Parameter.TheVariants.{P1017, P1301s2, P1800s2, P1800s5}
 use Rattle.model.specs.declared.Timer.{Timer}
-use Rattle.model.specs.declared.Timer.TheVariants.{NoTimer, Heartbeat, Tpdo, Srdo}
+use Rattle.model.specs.declared.Timer.TheVariants.{Heartbeat, Tpdo, Srdo}
 use Rattle.model.specs.declared.Transmission.{Transmission}
 use Rattle.model.specs.declared.Transmission.TheVariants.{OnSample, OnSyncs, OnRemote, Timed, Never}
 use Rattle.model.specs.declared.Fv.{Fv}
@@ -36,19 +36,19 @@ restart_srdo c = let t = c.timers in with_timers c (timers t.clock t.heartbeat t
 abbrev pub restart_tpdo : Core → Core
 restart_tpdo c = let t = c.timers in with_tpdo (with_timers c (timers t.clock t.heartbeat t.clock t.srdo)) (sending 0 false)
 
--- the timer that a parameter is a period or the type of
-unfoldable pub timer_of : Parameter → Timer
+-- the timer that a parameter is a period or the type of, where it is one's
+unfoldable pub timer_of : Parameter → Option Timer
 timer_of p =
     first_hit
-    ((among (P1017 ∷ []) p ⇒ Heartbeat) ∷ (among (P1800s2 ∷ P1800s5 ∷ []) p ⇒ Tpdo) ∷ (among (P1301s2 ∷ []) p ⇒ Srdo) ∷ [])
-    NoTimer
+    ((among (P1017 ∷ []) p ⇒ Some Heartbeat) ∷ (among (P1800s2 ∷ P1800s5 ∷ []) p ⇒ Some Tpdo) ∷ (among (P1301s2 ∷ []) p ⇒ Some Srdo) ∷ [])
+    None
 
 -- an accepted write of such a parameter restarts its timer, with the same value too
-abbrev pub restart : Timer → Core → Core
-restart NoTimer c = c
-restart Heartbeat c = restart_heartbeat c
-restart Tpdo c = restart_tpdo c
-restart Srdo c = restart_srdo c
+abbrev pub restart : Option Timer → Core → Core
+restart None c = c
+restart (Some Heartbeat) c = restart_heartbeat c
+restart (Some Tpdo) c = restart_tpdo c
+restart (Some Srdo) c = restart_srdo c
 
 -- ---- The frames
 

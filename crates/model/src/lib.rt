@@ -1,6 +1,10 @@
-// The types of document 01: plain data and no code. What each value means is said in specs/.
+// The types of document 01: plain data, and how a value is made of plainer ones. What each value means is said in specs/.
 // The structs that a state is made of hold numbers, floats and bools alone, laid out as C has them, so that firmware keeps a state by value.
 #![tactic(auto)]
+
+ghost use Rattle.std.specs.Prelude.{◌≡◌};
+ghost use Rattle.model.specs.Frames.{framed};
+ghost use Rattle.model.specs.Time.{transmission};
 
 // ---- Readings
 
@@ -23,7 +27,7 @@ pub struct Scaling {
     pub offset: f32,
 }
 
-// The integer PV (9130h): the 32 bits of an Integer32, and whether the reading is capped.
+// The integer PV (9130h): the 32 bits of an Integer32, and whether the reading is capped. They count also where it is, so the two are no Option.
 #[repr(C)]
 #[derive(Clone, Copy)]
 pub struct Integer {
@@ -129,15 +133,14 @@ pub enum Entry {
     LoadWord(Groups),
 }
 
-// What a look at an index and sub finds.
-#[derive(Clone, Copy)]
-pub enum Found {
+// Why nothing stands at an index and sub.
+#[derive(Clone, Copy, Debug, PartialEq, Eq)]
+pub enum Missing {
     NoObject,
     NoSub,
-    At(Entry),
 }
 
-// What an entry reads as: the name, which is a string, or a value.
+// What an entry reads as: the name, which is a string, or a value. An Option<Value> would say that the name is nothing to read.
 #[derive(Clone, Copy)]
 pub enum Content {
     Text,
@@ -146,13 +149,13 @@ pub enum Content {
 
 // ---- What an event asks, by its bytes alone
 
-// An SDO request. A download's size is 0 where it is not indicated; its data are the four bytes, low first.
+// An SDO request. A download has a size where one is indicated; its data are the four bytes, low first.
 #[derive(Clone, Copy)]
 pub enum SdoRequest {
     Download {
         index: u16,
         sub: u8,
-        size: u8,
+        size: Option<u8>,
         data: u32,
     },
     Upload {
@@ -208,26 +211,18 @@ pub enum Change {
     SavePending,
 }
 
-// The answer of the write checks: the abort code, or the change that the write makes.
-#[derive(Clone, Copy)]
-pub enum Checked {
-    Refused(u32),
-    Accepted(Change),
-}
-
 // ---- Time
 
-// The timer that a saved parameter is the period or type of.
+// The timers whose periods are saved parameters.
 #[derive(Clone, Copy)]
 pub enum Timer {
-    NoTimer,
     Heartbeat,
     Tpdo,
     Srdo,
 }
 
 // What a transmission type (1800h:2) sends at.
-#[derive(Clone, Copy)]
+#[derive(Clone, Copy, PartialEq, Eq)]
 pub enum Transmission {
     OnSample,
     OnSyncs,
@@ -236,9 +231,25 @@ pub enum Transmission {
     Never,
 }
 
+impl From<u8> for Transmission {
+    ghost from_gives = { λ kind t. t ≡ transmission kind };
+
+    #[tactic(auto, unfolding(crate::specs::Time::transmission, crate::specs::Choice::first_hit))]
+    fn from(kind: u8) -> Self {
+        match kind {
+            0 => Transmission::OnSample,
+            1..=240 => Transmission::OnSyncs,
+            252 | 253 => Transmission::OnRemote,
+            254 | 255 => Transmission::Timed,
+            _ => Transmission::Never,
+        }
+    }
+}
+
 // ---- Frames
 
-// A data frame that the node sends: CAN-ID, length, data (zero past the length).
+// A data frame that the node sends: CAN-ID, length, data (zero past the length). The data are eight fields and no array, so that a frame of the
+// definitions has eight bytes too: an array is a list there, of any length.
 #[repr(C)]
 #[derive(Clone, Copy)]
 pub struct Frame {
@@ -254,12 +265,25 @@ pub struct Frame {
     pub d7: u8,
 }
 
-// At most one frame: what a service sends, where it sends anything.
-#[repr(C)]
-#[derive(Clone, Copy)]
-pub struct Reply {
-    pub send: bool,
-    pub frame: Frame,
+impl Frame {
+    // The frame of an ID, a length and eight bytes of data.
+    pub fn new(id: u16, len: u8, bytes: [u8; 8]) -> Frame
+        ensures { result ≡ framed id len bytes }
+    {
+        let [d0, d1, d2, d3, d4, d5, d6, d7] = bytes;
+        Frame {
+            id,
+            len,
+            d0,
+            d1,
+            d2,
+            d3,
+            d4,
+            d5,
+            d6,
+            d7,
+        }
+    }
 }
 
 // ---- The state: identity, the saved parameters in force, and all the rest
@@ -357,7 +381,7 @@ pub struct Selection {
     pub progress: u8,
 }
 
-// The upload of 1008h: whether one is open, at which byte, with which toggle.
+// The upload of 1008h: whether one is open, at which byte, with which toggle. C has it so, and the byte and the toggle of a closed one are free.
 #[repr(C)]
 #[derive(Clone, Copy)]
 pub struct Upload {
@@ -365,6 +389,30 @@ pub struct Upload {
     pub at: u8,
     pub toggle: u8,
 }
+
+// The NMT states, as a heartbeat tells them. They are numbers and no enum: C has a byte there, and a caller's may be none of these, which the
+// state rules refuse.
+pub const STOPPED: u8 = 4;
+
+pub const OPERATIONAL: u8 = 5;
+
+pub const PRE_OPERATIONAL: u8 = 127;
+
+// A validity byte that vouches.
+pub const VALID: u8 = 0xa5;
+
+// LSS in waiting, with nothing matched yet.
+pub const NO_SELECTION: Selection = Selection {
+    configuration: false,
+    progress: 0,
+};
+
+// No upload is open.
+pub const NO_UPLOAD: Upload = Upload {
+    busy: false,
+    at: 0,
+    toggle: 0,
+};
 
 // All of the state that no save keeps.
 #[repr(C)]

@@ -36,14 +36,14 @@ use Rattle.wire.proofs.Lay.{start}
 use Rattle.rules.specs.Fit.{Fit}
 use Rattle.rules.proofs.Fits.{fit}
 use Rattle.rules.proofs.Accepted.{Accepted, accepted}
-use Rattle.step.specs.Asked.{SizesFor, Suits, alters_of}
-use Rattle.image.specs.declared.Sizes.{Sizes}
+use Rattle.step.specs.declared.ask.Asked.{Asked}
+use Rattle.step.specs.Asked.{ReadFor, IsAsked, Suits, alters_of}
 use Rattle.step.proofs.Suit.{suits}
 use Rattle.output.specs.declared.Sent.{Sent}
 use Rattle.output.specs.Sent.{Done, Leaves, emcy_of, reported_now}
 use Rattle.output.proofs.Ticks.{laid_as}
 use Rattle.node.proofs.Quiet.{kept_in, moves_of, calm}
-use Rattle.node.specs.Parts.{left, Turning}
+use Rattle.node.specs.Parts.{left, Turning, Turned}
 
 -- what a service comes to
 abbrev pub asked : Service → State → List ℕ → Outcome
@@ -214,19 +214,39 @@ gives_nmt command to s st {c} told a k l =
 pub admitted : (e : List ℕ) (s : State) (out st : ℕ) {n : ℕ} → n ≡ refusal e s out st → n ≡ 0 → Accepted s out st
 admitted e s out st a z = accepted e s out st (sym a ∙ z)
 
-pub event_done : (e : List ℕ) (s : State) (out st : List ℕ) (n : ℕ) {v : Service} {r : Answer} {ys zs : List ℕ}
-    → n ≡ refusal e s (length out) (length st) → n ≡ 0 → v ≡ service e
-    → Gives (given (asked v s st) out) r ys zs → Gives (event_answer e s out st) r ys zs
-unfolding event_answer step
-event_done e s out st n {r} {ys} {zs} a z k g =
-    subst (λ (m : ℕ). Gives (cond (eqb m 0) (given (step e s st) out) (refused m s out st)) r ys zs) (sym z ∙ a)
-    (subst (λ (w : Service). Gives (given (asked w s st) out) r ys zs) k g)
+-- by the service that its code has found
+pub service_done : (e : List ℕ) (s : State) (out st : List ℕ) {v : Service} {r : Answer} {ys zs : List ℕ} → v ≡ service e
+    → Gives (given (asked v s st) out) r ys zs → Gives (given (step e s st) out) r ys zs
+unfolding step
+service_done e s out st {r} {ys} {zs} k g = subst (λ (w : Service). Gives (given (asked w s st) out) r ys zs) k g
 
--- the same by the change that its code has found
-pub event_changed : (e : List ℕ) (s : State) (out st : List ℕ) (n : ℕ) {v : Service} {c : Change} {r : Answer} {ys zs : List ℕ}
-    → n ≡ refusal e s (length out) (length st) → n ≡ 0 → v ≡ service e → c ≡ change_of v s (read st)
-    → Gives (given (served c v s st) out) r ys zs → Gives (event_answer e s out st) r ys zs
-event_changed e s out st n {v} a z k told g = event_done e s out st n a z k (of_change v s st out told g)
+-- and by the change
+pub change_done : (e : List ℕ) (s : State) (out st : List ℕ) {v : Service} {c : Change} {r : Answer} {ys zs : List ℕ} → v ≡ service e
+    → c ≡ change_of v s (read st) → Gives (given (served c v s st) out) r ys zs → Gives (given (step e s st) out) r ys zs
+change_done e s out st {v} k told g = service_done e s out st k (of_change v s st out told g)
+
+-- a change that touches the parameters, where `turned` made it
+pub gives_turned : (e : List ℕ) (s : State) (st : List ℕ) (v : Service) (a : Asked) {h : Core} {xs ys zs : List ℕ} {r : Answer} → v ≡ service e
+    → reports v ≡ true → h ≡ heard v s → IsAsked v s st a → zs ≡ stored a.change s st
+    → ((w : Service) (t : List ℕ) → h ≡ heard w s → ReadFor a.change t a.contents → Turned a.change a.reply w s t xs ys r)
+    → Gives (given (step e s st) xs) r ys zs
+gives_turned e s st v a {h} {xs} k other heard q z d =
+    change_done e s xs st k q.change (gives_served a.change v s st other q.frames refl refl z (d v st heard q.contents))
+
+-- where an NMT command made it
+pub gives_reset : (e : List ℕ) (s : State) (st : List ℕ) (command to : ℕ) (a : Asked) {h : Core} {xs ys : List ℕ} {r : Answer} → Nmt command to ≡ service e
+    → h ≡ commanded command to s → IsAsked (Nmt command to) s st a
+    → ((w : Service) (t : List ℕ) → h ≡ heard w s → ReadFor a.change t a.contents → Turned a.change a.reply w s t xs ys r)
+    → Gives (given (step e s st) xs) r ys st
+unfolding heard
+gives_reset e s st command to a k told q d =
+    gives_turned e s st (Nmt command to) a k refl told q (rw q.change (nmt_stored command to s st)) d
+
+pub event_accepted : (e : List ℕ) (s : State) (out st : List ℕ) (n : ℕ) {r : Answer} {ys zs : List ℕ}
+    → n ≡ refusal e s (length out) (length st) → n ≡ 0 → Gives (given (step e s st) out) r ys zs → Gives (event_answer e s out st) r ys zs
+unfolding event_answer
+event_accepted e s out st n {r} {ys} {zs} a z g =
+    subst (λ (m : ℕ). Gives (cond (eqb m 0) (given (step e s st) out) (refused m s out st)) r ys zs) (sym z ∙ a) g
 
 pub event_refused : (e : List ℕ) (s : State) (out st : List ℕ) (n : ℕ) → n ≡ refusal e s (length out) (length st) → (n ≡ 0 → ⊥)
     → Gives (event_answer e s out st) (turned_away n s) out st
@@ -239,16 +259,16 @@ pub part_ok : (e : List ℕ) (v : Service) → v ≡ service e → part_in v ≤
 part_ok e v k = rw k (asked_part e)
 
 -- what the parts may count on
-pub turning : (e : List ℕ) (s : State) (st : List ℕ) (v : Service) (c : Change) (z : Sizes) {h : Core} → v ≡ service e → rules s ≡ true → length st ≡ 64
-    → h ≡ heard v s → c ≡ change_of v s (read st) → SizesFor c st z → Turning c z h s st
-turning e s st v c z a r size k told sizes =
+pub turning : (e : List ℕ) (s : State) (st : List ℕ) (v : Service) (a : Asked) {h : Core} → v ≡ service e → rules s ≡ true
+    → h ≡ heard v s → IsAsked v s st a → Turning a h s
+turning e s st v a told r k q =
     record {
       asks = v;
       heard = k;
-      suits = suits_asked v s st c r told;
-      sizes = sizes;
-      after = fit_asked v s st c (rules_after e s st v a r) told;
-      size = size;
+      suits = suits_asked v s st a.change r q.change;
+      store = st;
+      contents = q.contents;
+      after = fit_asked v s st a.change (rules_after e s st v told r) q.change;
     }
 
 -- ---- The power-on

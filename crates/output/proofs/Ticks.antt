@@ -1,5 +1,5 @@
 -- Frames laid are these; and a tick at which nothing is due sends none. Assumes nothing.
-use Prim.Native.Nat.{ℕ}
+use Rattle.std.proofs.Common.{ℕ}
 use mathlib.Core.Path.{◌≡◌, refl, sym, subst}
 use mathlib.Core.Bool.{Bool, true, false, ◌||◌, false≢true}
 use mathlib.Core.List.{List, []}

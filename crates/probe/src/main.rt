@@ -2,10 +2,12 @@
 // requirements and more writes besides. `stdout` holds what a node written apart from this one answers (tests/probe_expected.py).
 #![tactic(auto)]
 
+use dictionary::abort::AbortCode;
 use dictionary::objects::find;
 use dictionary::write::checked_write;
 use model::{
-    Address, Checked, Core, Fv, Groups, Identity, Selection, Sending, State, Timers, Upload,
+    Address, Change, Core, Fv, Groups, Identity, NO_SELECTION, NO_UPLOAD, OPERATIONAL, Sending,
+    State, Timers, VALID,
 };
 use settings::table::{defaults, first_cob, second_cob};
 use std::io;
@@ -32,15 +34,8 @@ fn core_in(nmt: u8) -> Core {
             syncs: 0,
             sample: false,
         },
-        lss: Selection {
-            configuration: false,
-            progress: 0,
-        },
-        upload: Upload {
-            busy: false,
-            at: 0,
-            toggle: 0,
-        },
+        lss: NO_SELECTION,
+        upload: NO_UPLOAD,
     }
 }
 
@@ -53,10 +48,10 @@ fn node_in(nmt: u8) -> State {
         serial: 0,
     };
     let mut settings = defaults(1);
-    if nmt == 5 {
+    if nmt == OPERATIONAL {
         settings.communication.srdo.direction = 0;
         settings.application.signature = 0xea44;
-        settings.application.valid = 0xa5;
+        settings.application.valid = VALID;
     }
     let core = core_in(nmt);
     State {
@@ -76,16 +71,14 @@ fn cobs(rt: &HostRuntime, id: u8) -> io::Result<()> {
 }
 
 // The abort code of a write, 0 where it is accepted.
-fn code_of(c: Checked) -> u32 {
-    match c {
-        Checked::Refused(code) => code,
-        Checked::Accepted(_) => 0,
-    }
+fn code_of(checked: Result<Change, AbortCode>) -> u32 {
+    checked.err().map_or(0, u32::from)
 }
 
 // A write of `size` bytes (0: not indicated), and its abort code.
 fn writes(rt: &HostRuntime, nmt: u8, index: u16, sub: u8, size: u8, d: u32) -> io::Result<()> {
-    let code = code_of(checked_write(find(index, sub), size, d, node_in(nmt)));
+    let indicated = (size != 0).then_some(size);
+    let code = code_of(checked_write(find(index, sub), indicated, d, node_in(nmt)));
     println!(rt; "write {nmt} {index:04x} {sub} {size} {d:08x} {code:08x}")
 }
 

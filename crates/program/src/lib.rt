@@ -7,19 +7,21 @@ ghost use Rattle.program.specs.Turns.{Begins, Turned};
 
 use model::{Identity, State};
 use node::{event, power_on};
-use text::lines;
+use text::Text;
 
-// What a call leaves: the state, the place after its lines, and how many frames it sent.
+// The output of a call: room for four frames.
+const OUTPUT: usize = 48;
+
+// What a call leaves beside its lines and the store: the state, and how many frames it sent.
 #[derive(Clone, Copy)]
 pub struct Turn {
     pub state: State,
-    pub at: usize,
     pub frames: u64,
 }
 
-// The power-on, with a zero identity: its lines go to the front.
-pub fn begin(text: &mut [u8], store: &[u8]) -> Turn
-    requires { 168 ≤ length text.old }
+// The power-on, with a zero identity.
+pub fn begin(text: &mut Text<'_>, store: &[u8]) -> Turn
+    requires { text.old.len + 168 ≤ length text.old.bytes.now }
     ensures { Begins zero_identity store.now text.old text.new result }
 {
     let identity = Identity {
@@ -28,36 +30,25 @@ pub fn begin(text: &mut [u8], store: &[u8]) -> Turn
         revision: 0,
         serial: 0,
     };
-    let mut out = [0u8; 48];
+    let mut out = [0u8; OUTPUT];
     let answer = power_on(identity, &mut out, store);
-    let at = lines(text, 0, 0, answer.number, answer.count, &out);
-    let state = answer.state;
+    text.lines(0, answer.number, answer.count, &out);
     Turn {
-        state,
-        at,
-        frames: answer.count as u64,
+        state: answer.state,
+        frames: u64::from(answer.count),
     }
 }
 
-// Record number n, whole or short: its lines go behind the text so far.
-pub fn call(
-    bytes: &[u8],
-    n: u64,
-    state: State,
-    text: &mut [u8],
-    at: usize,
-    store: &mut [u8],
-) -> Turn
-    requires { at + 168 ≤ length text.old }
-    ensures { Turned bytes.now n state store.old at text.old text.new store.new result }
+// Record number n, whole or short.
+pub fn call(bytes: &[u8], n: u64, state: State, text: &mut Text<'_>, store: &mut [u8]) -> Turn
+    requires { text.old.len + 168 ≤ length text.old.bytes.now }
+    ensures { Turned bytes.now n state store.old text.old text.new store.new result }
 {
-    let mut out = [0u8; 48];
+    let mut out = [0u8; OUTPUT];
     let answer = event(bytes, state, &mut out, store);
-    let next = lines(text, at, n, answer.number, answer.count, &out);
-    let after = answer.state;
+    text.lines(n, answer.number, answer.count, &out);
     Turn {
-        state: after,
-        at: next,
-        frames: answer.count as u64,
+        state: answer.state,
+        frames: u64::from(answer.count),
     }
 }

@@ -9,7 +9,7 @@ use lib.Dec.{T, ltb}
 use lib.IntN.{pos}
 use lib.Pow.{pow-add, pow_pos, pow-lt}
 use lib.Ieee.{Float, nan, inf, fin, Format, prec, emax, low, up, down, size, nearest, units, round, sum, neg, add, sub, mul, div, of_int, is_nan, unlike}
-use lib.Ieee.Digits.{size-le}
+use lib.Ieee.Digits.{size-le, back}
 use lib.Ieee.Fits.{round_is, two, down_pos}
 use lib.Ieee.Exact.{HasValue, units_val}
 use lib.Ieee.Nearest.{closest, closest_mono}
@@ -53,15 +53,6 @@ by_value (fin t m e) s a l p v h =
     (le_of_eq (ap (λ (z : ℕ). z * down e) (pow-add 2 p l) ∙ mul_right_comm (2 ^ p) (2 ^ l) (down e)))))
     (pow_pos l)
 
-spare : (z p l : ℕ) → z ≤ suc l → 2 ≤ p → z - p ≤ l
-spare z p l h t = omega arith
-
-rejoin : (l k : ℕ) → k ≤ l → l - k + k ≡ l
-rejoin l k h = omega arith
-
-below_top : (p e l : ℕ) → p ≤ e → p + l < l + suc e
-below_top p e l h = omega arith
-
 -- a fraction of at most 2 ^ p rounds to at most 2 ^ p, which the format holds
 round_bounded : (f : Format) (s : Bool) (num den p : ℕ) → 0 < den → p ≤ emax f → num ≤ 2 ^ p * den → Bounded (round f s num den) p
 round_bounded f s num den p D P h =
@@ -70,20 +61,17 @@ round_bounded f s num den p D P h =
     let top = p + l in
     let n_le : n ≤ 2 ^ top * den = le_trans (mul-le-mul_right (2 ^ l) h) (le_of_eq (mul_right_comm (2 ^ p) den (2 ^ l) ∙ ap (λ (z : ℕ). z * den) (sym (pow-add 2 p l)))) in
     let more : 2 ^ top < 2 ^ suc top = pow-lt (le_of_eq refl) in
-    let q_lt : n / den < 2 ^ suc top = (div-lt_iff_lt-mul D).1 (lt_of_le_of_lt n_le (mul_lt_right (2 ^ top) (2 ^ suc top) den D more)) in
+    let q_lt : n / den < 2 ^ suc top = (div-lt_iff_lt-mul D).1 (lt_of_le_of_lt n_le (mul-lt-mul_of_pos_right more D)) in
     let k = size (n / den) - prec f in
-    let k_le : k ≤ top = spare (size (n / den)) (prec f) top (size-le (n / den) (suc top) q_lt) (two f) in
+    let k_le : k ≤ top = omega (arith, size-le (n / den) (suc top) q_lt, two f) in
     let u = den * 2 ^ k in
-    let e : 2 ^ top ≡ 2 ^ (top - k) * 2 ^ k = ap (λ (z : ℕ). 2 ^ z) (sym (rejoin top k k_le)) ∙ pow-add 2 (top - k) k in
+    let e : 2 ^ top ≡ 2 ^ (top - k) * 2 ^ k = ap (λ (z : ℕ). 2 ^ z) (sym (back top k k_le)) ∙ pow-add 2 (top - k) k in
     let cross : n * 2 ^ k ≤ 2 ^ top * u = le_trans (mul-le-mul_right (2 ^ k) n_le) (le_of_eq (mul_assoc (2 ^ top) den (2 ^ k))) in
     let c_le : closest n u ≤ 2 ^ (top - k) = le_trans (closest_mono n u (2 ^ top) (2 ^ k) (mul-pos D (pow_pos k)) (pow_pos k) cross) (le_of_eq (ap (λ (z : ℕ). closest z (2 ^ k)) e ∙ closest_exact (2 ^ (top - k)) (2 ^ k) (pow_pos k))) in
     let v_le : closest n u * 2 ^ k ≤ 2 ^ top = le_trans (mul-le-mul_right (2 ^ k) c_le) (le_of_eq (sym e)) in
     subst (λ (x : Float). Bounded x p) (sym (round_is f s num den))
     (by_value (units f s (closest n u) k) s (closest n u * 2 ^ k) l p
-    (units_val f s (closest n u) k (lt_of_le_of_lt v_le (pow-lt (below_top p (emax f) l P)))) v_le)
-  where
-    mul_lt_right : (a b c : ℕ) → 0 < c → a < b → a * c < b * c
-    mul_lt_right a b c h l = mul-lt-mul_of_pos_right l h
+    (units_val f s (closest n u) k (lt_of_le_of_lt v_le (pow-lt (omega arith)))) v_le)
 
 -- ---- the operations
 neg_bounded : (x : Float) (p : ℕ) → Bounded x p → Bounded (neg x) p
@@ -96,21 +84,15 @@ cond_bounded : (b : Bool) (x y : Float) (p : ℕ) → Bounded x p → Bounded y 
 cond_bounded true x y p h k = h
 cond_bounded false x y p h k = k
 
-twice : (a b t w : ℕ) → a ≤ t → b ≤ t → w ≡ 2 * t → a + b ≤ w
-twice a b t w h k e = omega arith
-
-less : (a b t w : ℕ) → a ≤ t → w ≡ 2 * t → a - b ≤ w
-less a b t w h e = omega arith
-
 sum_bounded : (f : Format) (s : Bool) (a : ℕ) (t : Bool) (b c p : ℕ) → 0 < c → suc p ≤ emax f → a ≤ 2 ^ p * c → b ≤ 2 ^ p * c → Bounded (sum f s a t b c) (suc p)
 unfolding sum
 sum_bounded f s a t b c p C P h k =
     let w : 2 ^ suc p * c ≡ 2 * (2 ^ p * c) = ap (λ (z : ℕ). z * c) (pow-succ' 2 p) ∙ mul_assoc 2 (2 ^ p) c in
     cond_bounded (beq s t) (round f s (a + b) c) (cond (ltb a b) (round f t (b - a) c) (round f (s && ltb b a) (a - b) c)) (suc p)
-    (round_bounded f s (a + b) c (suc p) C P (twice a b (2 ^ p * c) (2 ^ suc p * c) h k w))
+    (round_bounded f s (a + b) c (suc p) C P (omega arith))
     (cond_bounded (ltb a b) (round f t (b - a) c) (round f (s && ltb b a) (a - b) c) (suc p)
-    (round_bounded f t (b - a) c (suc p) C P (less b a (2 ^ p * c) (2 ^ suc p * c) k w))
-    (round_bounded f (s && ltb b a) (a - b) c (suc p) C P (less a b (2 ^ p * c) (2 ^ suc p * c) h w)))
+    (round_bounded f t (b - a) c (suc p) C P (omega arith))
+    (round_bounded f (s && ltb b a) (a - b) c (suc p) C P (omega arith)))
 
 pub add_bounded : (f : Format) (x y : Float) (p : ℕ) → suc p ≤ emax f → Bounded x p → Bounded y p → Bounded (add f x y) (suc p)
 unfolding add
@@ -145,9 +127,6 @@ pub whole_bounded : (f : Format) (n p : ℕ) → p ≤ emax f → n ≤ 2 ^ p �
 unfolding of_int
 whole_bounded f n p P h = round_bounded f false n 1 p (zero-lt-suc 0) P (le_trans h (le_of_eq (sym (mul-one (2 ^ p)))))
 
-one_times : (a w b : ℕ) → a ≤ w → w ≤ b → a * 1 ≤ b
-one_times a w b h k = omega arith
-
 -- a quotient by a number that is 1 at least is no larger: 125 * 2 ^ k here
 pub div_bounded : (f : Format) (x : Float) (k p : ℕ) → p ≤ emax f → Bounded x p → Bounded (div f x (fin false 125 (pos k))) p
 unfolding div
@@ -156,5 +135,5 @@ div_bounded f (inf s) k p P h = absurd h
 div_bounded f (fin s m e) k p P h =
     let d = 125 * 2 ^ k in
     let one : 1 ≤ d = mul-le-mul (zero-lt-suc 124) (pow_pos k) in
-    round_bounded f (unlike s false) (m * up e * 1) (d * down e) p (mul-pos one (down_pos e)) P
-    (one_times (m * up e) (2 ^ p * down e) (2 ^ p * (d * down e)) h (mul-le-mul_left (2 ^ p) (le_trans (le_of_eq (sym (one-mul (down e)))) (mul-le-mul_right (down e) one))))
+    let more : 2 ^ p * down e ≤ 2 ^ p * (d * down e) = mul-le-mul_left (2 ^ p) (le_trans (le_of_eq (sym (one-mul (down e)))) (mul-le-mul_right (down e) one)) in
+    round_bounded f (unlike s false) (m * up e * 1) (d * down e) p (mul-pos one (down_pos e)) P (omega (arith, h, more))

@@ -3,6 +3,5 @@ pub mod Patterns
 pub mod Magnitude
 pub mod Bounds
 pub mod Finite
-pub mod Nans
 pub mod Ranges
 pub mod Twos

@@ -5,7 +5,7 @@ use Prim.Native.Nat.{ℕ, suc, ◌+◌, ◌-◌, ◌*◌, ◌/◌, ◌%◌, ◌^
 use native.Mathlib.Nat.{le_trans, mul_comm, mul_assoc, mul-div_cancel, mul-le-mul, le_of_lt, eq-or-lt_of_le, le_of_suc-le-suc, one-le-pow, le-div_iff_mul-le, zero-lt-suc}
 use native.Mathlib.Omega.{arith}
 use mathlib.Core.Logic.{inl, inr}
-use mathlib.Core.Bool.{Bool, true, false, not, cond}
+use mathlib.Core.Bool.{Bool, true, false, true≢false, not, cond}
 use lib.Dec.{T, leb, eqb, lit≤}
 use lib.Pow.{pow_mono}
 use borrow.Author.Tests.{lt-leb, ne_eqb}
@@ -15,6 +15,12 @@ use lib.Ieee.Fits.{down_pos}
 use lib.Ieee.Exact.{HasValue, odd_sign}
 use Rattle.model.specs.Reading.{integer_at, size_of, limited, nearer_end}
 use Rattle.reading.proofs.Halves.{near}
+
+pub at_nan : (v : Float) (k : ℕ) → is_nan v ≡ true → record { bits = 0; capped = true } ≡ integer_at v k
+unfolding is_nan integer_at
+at_nan nan k h = refl
+at_nan (inf s) k h = absurd (true≢false (sym h))
+at_nan (fin s m e) k h = absurd (true≢false (sym h))
 
 -- ---- from a value of a / 2 ^ 149 to the size
 by_value : (v : Float) (s : Bool) (a k : ℕ) → HasValue v s a (2 ^ 149) → integer_at v k ≡ limited s (size_of a k)

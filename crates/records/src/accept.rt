@@ -1,109 +1,74 @@
 // Which records are accepted: each absent, or of its size with every value in range and no false validity byte.
-ghost use Rattle.std.specs.Prelude.{◌≡◌};
-ghost use Rattle.model.specs.declared.Group.TheVariants as Group;
-ghost use Rattle.model.specs.Settings as Table;
-ghost use Rattle.model.specs.Store.{sound_n, ok_n, sound_record, ok};
+#![tactic(auto, unfolding(model::specs::Store::sound_n, model::specs::Store::sound_record))]
 
-use super::codec::{decode_a, decode_c};
-use model::{Application, Communication, Scaling, Settings, SrdoSettings, TpdoSettings};
-use validity::{sound_a, sound_c};
+ghost use Rattle.std.specs.Prelude.{◌≡◌, ◌||◌, ◌&&◌, ℕ, Bool, List, eqb, length};
+ghost use Rattle.model.specs.declared.Group.TheVariants as Group;
+ghost use Rattle.model.specs.Store as Store;
+ghost use Rattle.records.specs.Accepted.{ok_n_lem, ok_lem};
+
+use super::codec::Codec;
+use model::{Address, Application, Communication};
 use wire::address::{is_bit_index, is_node_id};
 use wire::bytes::byte;
 
-// ---- N
+// What is saved in a record of SIZE bytes.
+pub trait Record<const SIZE: usize> {
+    // Which contents are sound.
+    ghost sound: { List ℕ → Bool };
 
-// The contents of an N.
-fn sound_n(r: &[u8]) -> bool
-    ensures { result ≡ sound_n r.now }
-{
-    is_node_id(byte(r, 0)) & is_bit_index(byte(r, 1))
+    // Which records are accepted.
+    ghost ok: { List ℕ → Bool };
+
+    // Whether the contents are sound.
+    fn is_sound_record(r: &[u8]) -> bool
+        ensures { result ≡ sound r.now };
+
+    // A record is accepted if it is absent, or of its size and sound.
+    ghost absent_or_sound: { (r : List ℕ) → ok r ≡ (eqb (length r) 0 || (eqb (length r) SIZE && sound r)) };
+
+    // Whether a record is accepted.
+    final fn is_ok(r: &[u8]) -> bool
+        ensures { result ≡ ok r.now }
+    {
+        r.is_empty() || (r.len() == SIZE && Self::is_sound_record(r))
+    }
 }
 
 // N.
-pub fn ok_n(r: &[u8]) -> bool
-    ensures { result ≡ ok_n r.now }
-{
-    if r.len() == 0 {
-        return true;
-    }
-    if r.len() != 2 {
-        return false;
-    }
-    sound_n(r)
-}
+impl Record<2> for Address {
+    ghost sound = { Store.sound_n };
 
-// ---- C and A
+    ghost ok = { Store.ok_n };
 
-// Settings to decode a group over: no value of the other group is looked at.
-fn blank() -> Settings
-    ensures { result ≡ Table.blank }
-{
-    Settings {
-        communication: Communication {
-            heartbeat: 0,
-            srdo: SrdoSettings {
-                direction: 0,
-                refresh: 0,
-                validation: 0,
-                first: 0,
-                second: 0,
-            },
-            tpdo: TpdoSettings { kind: 0, period: 0 },
-            valid: 0,
-            signature: 0,
-        },
-        application: Application {
-            autostart: 0,
-            scaling: Scaling {
-                low: 0.0,
-                high: 0.0,
-                offset: 0.0,
-            },
-            digits: 0,
-            valid: 0,
-            signature: 0,
-        },
+    ghost absent_or_sound = { ok_n_lem };
+
+    fn is_sound_record(r: &[u8]) -> bool {
+        is_node_id(byte(r, 0)) & is_bit_index(byte(r, 1))
     }
 }
 
-// The contents of a C.
-fn sound_record_c(r: &[u8]) -> bool
-    ensures { result ≡ sound_record Group.C r.now }
-{
-    let id = is_node_id(byte(r, 0));
-    let sound = sound_c(decode_c(r, blank()));
-    id & sound
-}
+// C, which begins with an ID.
+impl Record<21> for Communication {
+    ghost sound = { Store.sound_record Group.C };
 
-// C.
-pub fn ok_c(r: &[u8]) -> bool
-    ensures { result ≡ ok Group.C r.now }
-{
-    if r.len() == 0 {
-        return true;
-    }
-    if r.len() != 21 {
-        return false;
-    }
-    sound_record_c(r)
-}
+    ghost ok = { Store.ok Group.C };
 
-// The contents of an A.
-fn sound_record_a(r: &[u8]) -> bool
-    ensures { result ≡ sound_record Group.A r.now }
-{
-    sound_a(decode_a(r, blank()))
+    ghost absent_or_sound = { ok_lem Group.C };
+
+    fn is_sound_record(r: &[u8]) -> bool {
+        is_node_id(byte(r, 0)) & Communication::is_sound_in(r)
+    }
 }
 
 // A.
-pub fn ok_a(r: &[u8]) -> bool
-    ensures { result ≡ ok Group.A r.now }
-{
-    if r.len() == 0 {
-        return true;
+impl Record<17> for Application {
+    ghost sound = { Store.sound_record Group.A };
+
+    ghost ok = { Store.ok Group.A };
+
+    ghost absent_or_sound = { ok_lem Group.A };
+
+    fn is_sound_record(r: &[u8]) -> bool {
+        Application::is_sound_in(r)
     }
-    if r.len() != 17 {
-        return false;
-    }
-    sound_record_a(r)
 }

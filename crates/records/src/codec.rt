@@ -1,15 +1,15 @@
 // The parameters of a group as its record, and back. All numbers are low byte first, in the order of the table.
 ghost use Rattle.std.specs.Prelude.{◌≡◌};
-ghost use Rattle.model.specs.declared.Group.TheVariants as Group;
+ghost use Rattle.model.specs.declared.Settings.{Settings};
 ghost use Rattle.model.specs.Settings.{in_force, altered};
-ghost use Rattle.model.specs.Store.{record_n, record_of};
+ghost use Rattle.model.specs.Validity.{sound};
+ghost use Rattle.model.specs.Store.{record_n, record_of, field};
 ghost use Rattle.records.specs.Decoded.{from_record, scaling_in};
 
-use model::{Address, Application, Communication, Scaling, Settings, SrdoSettings, TpdoSettings};
+use model::{Address, Application, Communication, Scaling, SrdoSettings, TpdoSettings};
 use reading::{bits_of, real_of};
+use validity::Parameters;
 use wire::bytes::{byte, get16, get32};
-
-// ---- To bytes
 
 // N: Node-ID and bit index.
 pub fn encode_n(a: Address) -> [u8; 2]
@@ -18,110 +18,117 @@ pub fn encode_n(a: Address) -> [u8; 2]
     [a.id, a.bit]
 }
 
-// C: the active ID, then the C rows.
-pub fn encode_c(id: u8, k: Settings) -> [u8; 21]
-    ensures { result ≡ record_of Group.C id (in_force k) }
-{
-    let c = k.communication;
-    let s = c.srdo;
-    let t = c.tpdo;
-    let first1 = s.first / 256;
-    let first2 = first1 / 256;
-    let first3 = first2 / 256;
-    let second1 = s.second / 256;
-    let second2 = second1 / 256;
-    let second3 = second2 / 256;
-    [
-        id,
-        (c.heartbeat % 256) as u8,
-        (c.heartbeat / 256 % 256) as u8,
-        s.direction,
-        (s.refresh % 256) as u8,
-        (s.refresh / 256 % 256) as u8,
-        s.validation,
-        (s.first % 256) as u8,
-        (first1 % 256) as u8,
-        (first2 % 256) as u8,
-        (first3 % 256) as u8,
-        (s.second % 256) as u8,
-        (second1 % 256) as u8,
-        (second2 % 256) as u8,
-        (second3 % 256) as u8,
-        t.kind,
-        (t.period % 256) as u8,
-        (t.period / 256 % 256) as u8,
-        c.valid,
-        (c.signature % 256) as u8,
-        (c.signature / 256 % 256) as u8,
-    ]
+// A group and its record of SIZE bytes. C begins with the active ID, and its rows follow; A is its rows alone.
+pub trait Codec<const SIZE: usize>: Parameters + Copy {
+    // The record, saved with an active ID.
+    fn encode(self, id: u8) -> [u8; SIZE]
+        ensures { (k : Settings) → result ≡ record_of Self.group id (in_force (Self.set k self)) };
+
+    // The parameters that a record says.
+    fn decode(r: &[u8]) -> Self
+        ensures { (k : Settings) → Self.set k result ≡ altered (from_record Self.group r.now) k };
+
+    // Whether a record says sound ones.
+    final fn is_sound_in(r: &[u8]) -> bool
+        ensures { result ≡ sound Self.group (field r.now) }
+    {
+        Self::decode(r).is_sound()
+    }
 }
 
-// A: the A rows. A float goes by its bits.
-pub fn encode_a(k: Settings) -> [u8; 17]
-    ensures { result ≡ record_of Group.A 0 (in_force k) }
-{
-    let a = k.application;
-    let low = bits_of(a.scaling.low);
-    let low1 = low / 256;
-    let low2 = low1 / 256;
-    let low3 = low2 / 256;
-    let high = bits_of(a.scaling.high);
-    let high1 = high / 256;
-    let high2 = high1 / 256;
-    let high3 = high2 / 256;
-    let offset = bits_of(a.scaling.offset);
-    let offset1 = offset / 256;
-    let offset2 = offset1 / 256;
-    let offset3 = offset2 / 256;
-    [
-        a.autostart,
-        (low % 256) as u8,
-        (low1 % 256) as u8,
-        (low2 % 256) as u8,
-        (low3 % 256) as u8,
-        (high % 256) as u8,
-        (high1 % 256) as u8,
-        (high2 % 256) as u8,
-        (high3 % 256) as u8,
-        (offset % 256) as u8,
-        (offset1 % 256) as u8,
-        (offset2 % 256) as u8,
-        (offset3 % 256) as u8,
-        a.digits,
-        a.valid,
-        (a.signature % 256) as u8,
-        (a.signature / 256 % 256) as u8,
-    ]
+impl Codec<21> for Communication {
+    fn encode(self, id: u8) -> [u8; 21] {
+        let [heartbeat0, heartbeat1] = self.heartbeat.to_le_bytes();
+        let srdo = self.srdo;
+        let [refresh0, refresh1] = srdo.refresh.to_le_bytes();
+        let [first0, first1, first2, first3] = srdo.first.to_le_bytes();
+        let [second0, second1, second2, second3] = srdo.second.to_le_bytes();
+        let [period0, period1] = self.tpdo.period.to_le_bytes();
+        let [signature0, signature1] = self.signature.to_le_bytes();
+        [
+            id,
+            heartbeat0,
+            heartbeat1,
+            srdo.direction,
+            refresh0,
+            refresh1,
+            srdo.validation,
+            first0,
+            first1,
+            first2,
+            first3,
+            second0,
+            second1,
+            second2,
+            second3,
+            self.tpdo.kind,
+            period0,
+            period1,
+            self.valid,
+            signature0,
+            signature1,
+        ]
+    }
+
+    fn decode(r: &[u8]) -> Communication {
+        let srdo = SrdoSettings {
+            direction: byte(r, 3),
+            refresh: get16(r, 4),
+            validation: byte(r, 6),
+            first: get32(r, 7),
+            second: get32(r, 11),
+        };
+        let tpdo = TpdoSettings {
+            kind: byte(r, 15),
+            period: get16(r, 16),
+        };
+        Communication {
+            heartbeat: get16(r, 1),
+            srdo,
+            tpdo,
+            valid: byte(r, 18),
+            signature: get16(r, 19),
+        }
+    }
 }
 
-// ---- And back
+impl Codec<17> for Application {
+    // The ID is not in it. A float goes by its bits.
+    fn encode(self, _id: u8) -> [u8; 17] {
+        let scaling = self.scaling;
+        let [low0, low1, low2, low3] = bits_of(scaling.low).to_le_bytes();
+        let [high0, high1, high2, high3] = bits_of(scaling.high).to_le_bytes();
+        let [offset0, offset1, offset2, offset3] = bits_of(scaling.offset).to_le_bytes();
+        let [signature0, signature1] = self.signature.to_le_bytes();
+        [
+            self.autostart,
+            low0,
+            low1,
+            low2,
+            low3,
+            high0,
+            high1,
+            high2,
+            high3,
+            offset0,
+            offset1,
+            offset2,
+            offset3,
+            self.digits,
+            self.valid,
+            signature0,
+            signature1,
+        ]
+    }
 
-// The settings k, with the C parameters of a record.
-pub fn decode_c(r: &[u8], k: Settings) -> Settings
-    ensures { result ≡ altered (from_record Group.C r.now) k }
-{
-    let srdo = SrdoSettings {
-        direction: byte(r, 3),
-        refresh: get16(r, 4),
-        validation: byte(r, 6),
-        first: get32(r, 7),
-        second: get32(r, 11),
-    };
-    let tpdo = TpdoSettings {
-        kind: byte(r, 15),
-        period: get16(r, 16),
-    };
-    let communication = Communication {
-        heartbeat: get16(r, 1),
-        srdo,
-        tpdo,
-        valid: byte(r, 18),
-        signature: get16(r, 19),
-    };
-    let application = k.application;
-    Settings {
-        communication,
-        application,
+    fn decode(r: &[u8]) -> Application {
+        Application {
+            autostart: byte(r, 0),
+            scaling: scaling(r),
+            digits: byte(r, 13),
+            valid: byte(r, 14),
+            signature: get16(r, 15),
+        }
     }
 }
 
@@ -133,24 +140,5 @@ pub fn scaling(r: &[u8]) -> Scaling
         low: real_of(get32(r, 1)),
         high: real_of(get32(r, 5)),
         offset: real_of(get32(r, 9)),
-    }
-}
-
-// The settings k, with the A parameters of a record.
-pub fn decode_a(r: &[u8], k: Settings) -> Settings
-    ensures { result ≡ altered (from_record Group.A r.now) k }
-{
-    let scaling = scaling(r);
-    let application = Application {
-        autostart: byte(r, 0),
-        scaling,
-        digits: byte(r, 13),
-        valid: byte(r, 14),
-        signature: get16(r, 15),
-    };
-    let communication = k.communication;
-    Settings {
-        communication,
-        application,
     }
 }

@@ -4,11 +4,13 @@
 ghost use Rattle.std.specs.Prelude.{◌≡◌, ◌≤◌};
 ghost use Rattle.model.specs.Rules as Rules;
 ghost use Rattle.model.specs.Step as Step;
+ghost use Rattle.model.specs.Choice.{first_hit};
+ghost use Rattle.rules.specs.Numbers.{number_of, numbered};
 
-use model::{Answer, State};
+use model::{Answer, OPERATIONAL, PRE_OPERATIONAL, STOPPED, State};
 use nmt::start_obeyed;
 use time::frames::{emcy_due, reading_of};
-use validity::{honest_a, honest_c, ranges_a, ranges_c};
+use validity::Parameters;
 use wire::address::{is_bit_index, is_node_id};
 use wire::frames::{can_id, flag, kind_of, length};
 
@@ -32,30 +34,28 @@ fn rule_bits(s: State) -> bool
 fn rule_nmt(s: State) -> bool
     ensures { result ≡ Rules.rule_nmt s }
 {
-    (s.core.nmt == 4) | ((s.core.nmt == 5) | (s.core.nmt == 127))
+    (s.core.nmt == STOPPED) | ((s.core.nmt == OPERATIONAL) | (s.core.nmt == PRE_OPERATIONAL))
 }
 
 // Every parameter in range.
 fn rule_ranges(s: State) -> bool
     ensures { result ≡ Rules.rule_ranges s }
 {
-    let k = s.settings;
-    ranges_c(k) & ranges_a(k)
+    s.settings.communication.in_range() & s.settings.application.in_range()
 }
 
 // No false validity byte.
 fn rule_honest(s: State) -> bool
     ensures { result ≡ Rules.rule_honest s }
 {
-    let k = s.settings;
-    honest_c(k) & honest_a(k)
+    s.settings.communication.is_honest() & s.settings.application.is_honest()
 }
 
 // Operational only with parameters that Start would accept.
 fn rule_start(s: State) -> bool
     ensures { result ≡ Rules.rule_start s }
 {
-    if s.core.nmt != 5 {
+    if s.core.nmt != OPERATIONAL {
         return true;
     }
     let k = s.settings;
@@ -75,7 +75,7 @@ fn rule_reported(s: State) -> bool
 fn rule_lss(s: State) -> bool
     ensures { result ≡ Rules.rule_lss s }
 {
-    (!s.core.lss.configuration | (s.core.nmt == 127)) & (s.core.lss.progress <= 3)
+    (!s.core.lss.configuration | (s.core.nmt == PRE_OPERATIONAL)) & (s.core.lss.progress <= 3)
 }
 
 // SYNCs are counted below a type of 1..240, and by no other type.
@@ -131,48 +131,80 @@ pub fn rules(s: State) -> bool
 
 // ---- The refusals
 
+// Why a call is refused: the rows of the document's table, the lowest number first.
+#[derive(Clone, Copy, Debug, PartialEq, Eq)]
+pub enum Reason {
+    NotAnEvent,
+    UnknownKind,
+    BadFrame,
+    ShortOutput,
+    WrongStore,
+    BrokenState,
+}
+
+impl Reason {
+    // Its number in the table.
+    pub fn number(self) -> u8
+        ensures { result ≡ number_of self }
+    {
+        match self {
+            Reason::NotAnEvent => 1,
+            Reason::UnknownKind => 2,
+            Reason::BadFrame => 3,
+            Reason::ShortOutput => 4,
+            Reason::WrongStore => 5,
+            Reason::BrokenState => 6,
+        }
+    }
+}
+
 // A frame whose CAN-ID, flag or length is out of range.
 fn bad_frame(event: &[u8]) -> bool
     ensures { result ≡ Step.bad_frame_in event.now }
 {
-    let id = can_id(event);
-    let remote = flag(event);
-    let len = length(event);
-    (2047 < id) | ((1 < remote) | (8 < len))
+    (2047 < can_id(event)) | (1 < flag(event)) | (8 < length(event))
 }
 
-// The refusals of what is lent, by its lengths: all that a power-on can be refused by.
-pub fn power_on_refusal(out: usize, store: usize) -> u8
-    ensures { result ≡ Step.power_on_refusal out store }
-{
-    if out < 48 {
-        return 4;
-    }
-    if store != 64 {
-        return 5;
-    }
-    0
-}
-
-// The refusal of an event, 0 for none. The state rules come last, so that they cost nothing where an earlier number applies.
-pub fn refusal(event: &[u8], s: State, out: usize, store: usize) -> u8
-    ensures { result ≡ Step.refusal event.now s out store }
+// The refusals of an event's bytes.
+fn event_refusal(event: &[u8]) -> Result<(), Reason>
+    ensures { numbered result ≡ first_hit (Step.by_event event.now) Step.done }
 {
     if event.len() != 13 {
-        return 1;
+        return Err(Reason::NotAnEvent);
     }
     let kind = kind_of(event);
     if !((1 <= kind) & (kind <= 3)) {
-        return 2;
+        return Err(Reason::UnknownKind);
     }
     if (kind == 1) & bad_frame(event) {
-        return 3;
+        return Err(Reason::BadFrame);
     }
-    let lent = power_on_refusal(out, store);
-    if lent != 0 {
-        return lent;
+    Ok(())
+}
+
+// The refusals of what is lent, by its lengths: all that a power-on can be refused by.
+pub fn power_on_refusal(out: usize, store: usize) -> Result<(), Reason>
+    ensures { numbered result ≡ Step.power_on_refusal out store }
+{
+    if out < 48 {
+        return Err(Reason::ShortOutput);
     }
-    if rules(s) { 0 } else { 6 }
+    if store != 64 {
+        return Err(Reason::WrongStore);
+    }
+    Ok(())
+}
+
+// The refusals of an event. The state rules come last, so that they cost nothing where an earlier number applies.
+pub fn refusal(event: &[u8], s: State, out: usize, store: usize) -> Result<(), Reason>
+    ensures { numbered result ≡ Step.refusal event.now s out store }
+{
+    event_refusal(event)?;
+    power_on_refusal(out, store)?;
+    if !rules(s) {
+        return Err(Reason::BrokenState);
+    }
+    Ok(())
 }
 
 // The answer of a refused call: no frame, and the state that it hands back.

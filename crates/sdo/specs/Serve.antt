@@ -1,11 +1,11 @@
 -- What `serve` asks of the state and what it ensures, and the values that it puts together. Assumes nothing.
-use Rattle.std.specs.Prelude.{◌≡◌, true, false, [], ℕ, ◌≤◌}
+use Rattle.std.specs.Prelude.{◌≡◌, true, ℕ, ◌≤◌, Result, Some, None}
+use Rattle.model.specs.declared.Change.{Change}
 use Rattle.model.specs.declared.Change.TheVariants.{Keep}
-use Rattle.model.specs.declared.Checked.{Checked}
 use Rattle.model.specs.declared.Frame.{Frame}
 use Rattle.model.specs.declared.SdoRequest.{SdoRequest}
 use Rattle.model.specs.declared.State.{State}
-use Rattle.model.specs.Frames.{framed, frames_of}
+use Rattle.model.specs.Frames.{frames_of}
 use Rattle.model.specs.Parts.{id_of}
 use Rattle.model.specs.Rules.{rule_upload}
 use Rattle.model.specs.Sdo.{change_in, write_reply, sdo_change, sdo_reply}
@@ -24,12 +24,12 @@ pub record IsServed (request : SdoRequest) (s : State) (r : Served) : Type 0 whe
 
 -- a frame is sent, and nothing changes
 abbrev pub told : Frame → Served
-told f = record { change = Keep; reply = record { send = true; frame = f } }
+told f = record { change = Keep; reply = Some f }
 
 -- nothing is sent, and nothing changes
 abbrev pub unanswered : Served
-unanswered = record { change = Keep; reply = record { send = false; frame = framed 0 0 [] } }
+unanswered = record { change = Keep; reply = None }
 
 -- a write that was checked
-abbrev pub written : Checked → ℕ → ℕ → State → Served
-written c index sub s = record { change = change_in c; reply = record { send = true; frame = write_reply c index sub s } }
+abbrev pub written : Result Change ℕ → ℕ → ℕ → State → Served
+written c index sub s = record { change = change_in c; reply = Some (write_reply c index sub s) }

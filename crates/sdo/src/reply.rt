@@ -1,62 +1,104 @@
-// The frames of the replies: eight bytes on the node's own CAN-ID.
+// The frames of the replies.
+#![tactic(auto, unfolding(model::specs::Bytes::low_bytes))]
+
 ghost use Rattle.std.specs.Prelude.{◌≡◌, ◌≤◌};
 ghost use Rattle.model.specs.Parts.{id_of};
 ghost use Rattle.model.specs.Sdo as Sdo;
+ghost use Rattle.dictionary.specs.Codes.{coded};
 
+use dictionary::abort::AbortCode;
 use dictionary::content::content;
-use dictionary::write::{NO_OBJECT, NO_SUB};
-use model::{Checked, Content, Found, Frame, Kind, State};
+use model::{Change, Content, Entry, Frame, Kind, Missing, State};
 use settings::values::{encode, kind_of, word};
 
-// A command byte, index and sub, then four bytes.
-fn headed(command: u8, index: u16, sub: u8, four: [u8; 4], s: State) -> Frame
+// Eight bytes on the node's own CAN-ID.
+pub(crate) fn replied(bytes: [u8; 8], s: State) -> Frame
     requires { id_of s ≤ 127 }
-    ensures { result ≡ Sdo.replied s (Sdo.headed command index sub four) }
+    ensures { result ≡ Sdo.replied s bytes }
 {
-    Frame {
-        id: 0x580 + s.core.active.id as u16,
-        len: 8,
-        d0: command,
-        d1: (index % 256) as u8,
-        d2: (index / 256 % 256) as u8,
-        d3: sub,
-        d4: four[0],
-        d5: four[1],
-        d6: four[2],
-        d7: four[3],
+    Frame::new(0x580 + s.core.active.id as u16, 8, bytes)
+}
+
+// What is answered: the index and sub that a reply names, in a state whose Node-ID fits a CAN-ID.
+#[derive(Clone, Copy)]
+pub struct Named {
+    pub index: u16,
+    pub sub: u8,
+    pub state: State,
+    pub ghost id: { id_of state ≤ 127 },
+}
+
+impl Named {
+    // A reply's index and sub, in a state.
+    pub fn new(index: u16, sub: u8, state: State) -> Named
+        requires { id_of state ≤ 127 }
+        ensures { (result.index ≡ index) × (result.sub ≡ sub) × (result.state ≡ state) }
+    {
+        Named { index, sub, state }
+    }
+
+    // A command byte, index and sub, then four bytes.
+    fn headed(&self, command: u8, four: [u8; 4]) -> Frame
+        ensures { result ≡ Sdo.replied self.now.state (Sdo.headed command self.now.index self.now.sub four) }
+    {
+        let [low, high] = self.index.to_le_bytes();
+        let [a, b, c, d] = four;
+        replied([command, low, high, self.sub, a, b, c, d], self.state)
+    }
+
+    // ---- Writes and aborts
+
+    // An accepted write.
+    fn acknowledged(&self) -> Frame
+        ensures { result ≡ Sdo.acknowledged self.now.index self.now.sub self.now.state }
+    {
+        self.headed(0x60, [0, 0, 0, 0])
+    }
+
+    // An abort, with its code, which goes out as a number: that is said of every number, so it takes one.
+    pub fn aborted(&self, code: u32) -> Frame
+        ensures { result ≡ Sdo.aborted self.now.index self.now.sub code self.now.state }
+    {
+        self.headed(0x80, word(code))
+    }
+
+    // The reply to a write that was checked.
+    pub fn write_reply(&self, checked: Result<Change, AbortCode>) -> Frame
+        ensures { result ≡ Sdo.write_reply (coded checked) self.now.index self.now.sub self.now.state }
+    {
+        match checked {
+            Ok(_) => self.acknowledged(),
+            Err(code) => self.aborted(code.into()),
+        }
+    }
+
+    // ---- Reads
+
+    // The reply that begins an upload: the name's length, since the name goes by segments, or the value.
+    #[tactic(auto, using(settings::proofs::Alike::four_bytes_lem), unfolding(model::specs::Bytes::low_bytes))]
+    fn uploaded(&self, what: Content) -> Frame
+        ensures { result ≡ Sdo.uploaded what self.now.index self.now.sub self.now.state }
+    {
+        match what {
+            Content::Text => self.headed(0x41, [15, 0, 0, 0]),
+            Content::Plain(v) => {
+                let command = expedited(kind_of(v));
+                self.headed(command, encode(v))
+            }
+        }
+    }
+
+    // The reply to a read of what was found. A read has only the first two of the checks.
+    pub fn read_reply(&self, found: Result<Entry, Missing>) -> Frame
+        requires { self.now.state.settings.application.digits ≤ 4 }
+        ensures { result ≡ Sdo.read_from found self.now.index self.now.sub self.now.state }
+    {
+        match found {
+            Ok(e) => self.uploaded(content(e, self.state)),
+            Err(missing) => self.aborted(AbortCode::from(missing).into()),
+        }
     }
 }
-
-// ---- Writes and aborts
-
-// An accepted write.
-fn acknowledged(index: u16, sub: u8, s: State) -> Frame
-    requires { id_of s ≤ 127 }
-    ensures { result ≡ Sdo.acknowledged index sub s }
-{
-    headed(0x60, index, sub, [0, 0, 0, 0], s)
-}
-
-// An abort, with its code.
-pub fn aborted(index: u16, sub: u8, code: u32, s: State) -> Frame
-    requires { id_of s ≤ 127 }
-    ensures { result ≡ Sdo.aborted index sub code s }
-{
-    headed(0x80, index, sub, word(code), s)
-}
-
-// The reply to a write that was checked.
-pub fn write_reply(checked: Checked, index: u16, sub: u8, s: State) -> Frame
-    requires { id_of s ≤ 127 }
-    ensures { result ≡ Sdo.write_reply checked index sub s }
-{
-    match checked {
-        Checked::Refused(code) => aborted(index, sub, code, s),
-        Checked::Accepted(_) => acknowledged(index, sub, s),
-    }
-}
-
-// ---- Reads
 
 // The command byte of a value that goes in the reply itself: it tells how many of the four bytes are the value's.
 fn expedited(k: Kind) -> u8
@@ -65,34 +107,6 @@ fn expedited(k: Kind) -> u8
     match k {
         Kind::U8 => 0x4f,
         Kind::U16 => 0x4b,
-        Kind::U32 => 0x43,
-        Kind::Integer32 => 0x43,
-        Kind::Real32 => 0x43,
-    }
-}
-
-// The reply that begins an upload: the name's length, since the name goes by segments, or the value.
-fn uploaded(what: Content, index: u16, sub: u8, s: State) -> Frame
-    requires { id_of s ≤ 127 }
-    ensures { result ≡ Sdo.uploaded what index sub s }
-{
-    match what {
-        Content::Text => headed(0x41, index, sub, [15, 0, 0, 0], s),
-        Content::Plain(v) => {
-            let command = expedited(kind_of(v));
-            headed(command, index, sub, encode(v), s)
-        }
-    }
-}
-
-// The reply to a read of what was found. A read has only the first two of the checks.
-pub fn read_reply(found: Found, index: u16, sub: u8, s: State) -> Frame
-    requires { (id_of s ≤ 127) × (s.settings.application.digits ≤ 4) }
-    ensures { result ≡ Sdo.read_from found index sub s }
-{
-    match found {
-        Found::NoObject => aborted(index, sub, NO_OBJECT, s),
-        Found::NoSub => aborted(index, sub, NO_SUB, s),
-        Found::At(e) => uploaded(content(e, s), index, sub, s),
+        Kind::U32 | Kind::Integer32 | Kind::Real32 => 0x43,
     }
 }

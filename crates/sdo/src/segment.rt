@@ -1,36 +1,23 @@
 // The upload of the name, `CRADLE-PRESSURE`, in three segments of seven bytes.
 ghost use Rattle.std.specs.Prelude.{◌≡◌, true, ◌∷◌, ◌≤◌};
 ghost use Rattle.model.specs.Dictionary as Table;
-ghost use Rattle.model.specs.Parts.{id_of, no_upload};
+ghost use Rattle.model.specs.Parts.{id_of};
 ghost use Rattle.model.specs.Rules.{rule_upload};
 ghost use Rattle.model.specs.Sdo as Sdo;
+ghost use Rattle.dictionary.specs.Codes.{code_of};
 ghost use Rattle.sdo.specs.Open.{at_segment};
 
-use super::reply::aborted;
-use model::{Frame, State, Upload};
-
-// The abort codes: a toggle that is not the upload's, and a command that is not served.
-const WRONG_TOGGLE: u32 = 0x05030000;
-
-pub const UNKNOWN_COMMAND: u32 = 0x05040001;
+use super::reply::{Named, replied};
+use dictionary::abort::AbortCode;
+use model::{Frame, NO_UPLOAD, State, Upload};
 
 // The object that an open upload reads.
 const NAME_INDEX: u16 = 0x1008;
 
 // ---- Where an upload stands
 
-// No upload is open.
-pub fn no_upload() -> Upload
-    ensures { result ≡ no_upload }
-{
-    Upload {
-        busy: false,
-        at: 0,
-        toggle: 0,
-    }
-}
-
 // A read of the name opens an upload. The name stands at 1008h:0 and nowhere else, so the dictionary is not searched for it.
+#[tactic(auto, unfolding(model::specs::Dictionary::find))]
 pub fn opened(index: u16, sub: u8) -> Upload
     ensures { result ≡ Sdo.opened (Table.find index sub) }
 {
@@ -41,10 +28,11 @@ pub fn opened(index: u16, sub: u8) -> Upload
             toggle: 0,
         };
     }
-    no_upload()
+    NO_UPLOAD
 }
 
 // The upload after its segment: the last closes it.
+#[tactic(auto, unfolding(model::specs::Sdo::segment_sent))]
 pub fn segment_sent(u: Upload) -> Upload
     requires { at_segment u ≡ true }
     ensures { result ≡ Sdo.segment_sent u }
@@ -61,7 +49,7 @@ pub fn segment_sent(u: Upload) -> Upload
             at: 14,
             toggle: 0,
         },
-        _ => no_upload(),
+        _ => NO_UPLOAD,
     }
 }
 
@@ -74,39 +62,22 @@ pub fn sends_segment(toggle: u8, u: Upload) -> bool
     u.busy & (toggle == u.toggle)
 }
 
-// A command byte and seven bytes.
-fn seven(command: u8, bytes: [u8; 7], s: State) -> Frame
-    requires { id_of s ≤ 127 }
-    ensures { result ≡ Sdo.replied s (command ∷ bytes) }
-{
-    Frame {
-        id: 0x580 + s.core.active.id as u16,
-        len: 8,
-        d0: command,
-        d1: bytes[0],
-        d2: bytes[1],
-        d3: bytes[2],
-        d4: bytes[3],
-        d5: bytes[4],
-        d6: bytes[5],
-        d7: bytes[6],
-    }
-}
-
 // The segment that is next. Its command byte is 10h for a toggle of 1, plus twice the number of unused bytes, plus 1 for the last.
+#[tactic(auto, unfolding(model::specs::Sdo::segment_command, model::specs::Bytes::part))]
 fn segment(s: State) -> Frame
     requires { (id_of s ≤ 127) × (at_segment s.core.upload ≡ true) }
     ensures { result ≡ Sdo.replied s (Sdo.segment_command s.core.upload ∷ Sdo.segment_bytes s.core.upload) }
 {
     let at = s.core.upload.at;
     match at {
-        0 => seven(0x00, [b'C', b'R', b'A', b'D', b'L', b'E', b'-'], s),
-        7 => seven(0x10, [b'P', b'R', b'E', b'S', b'S', b'U', b'R'], s),
-        _ => seven(0x0d, [b'E', 0, 0, 0, 0, 0, 0], s),
+        0 => replied([0x00, b'C', b'R', b'A', b'D', b'L', b'E', b'-'], s),
+        7 => replied([0x10, b'P', b'R', b'E', b'S', b'S', b'U', b'R'], s),
+        _ => replied([0x0d, b'E', 0, 0, 0, 0, 0, 0], s),
     }
 }
 
 // The index that an abort names for a request that names none: the open upload's, or 0000h.
+#[tactic(auto, unfolding(model::specs::Sdo::open_index))]
 pub fn open_index(u: Upload) -> u16
     ensures { result ≡ Sdo.open_index u }
 {
@@ -114,17 +85,19 @@ pub fn open_index(u: Upload) -> u16
 }
 
 // The abort code where no segment is sent: the toggle is wrong, or no upload is open.
-fn segment_code(u: Upload) -> u32
-    ensures { result ≡ Sdo.segment_code u }
+#[tactic(auto, unfolding(model::specs::Sdo::segment_code))]
+fn segment_code(u: Upload) -> AbortCode
+    ensures { code_of result ≡ Sdo.segment_code u }
 {
     if u.busy {
-        WRONG_TOGGLE
+        AbortCode::WrongToggle
     } else {
-        UNKNOWN_COMMAND
+        AbortCode::UnknownCommand
     }
 }
 
 // The reply to a segment request: the segment or an abort.
+#[tactic(auto, unfolding(model::specs::Sdo::segment_reply, model::specs::Rules::rule_upload))]
 pub fn segment_reply(toggle: u8, s: State) -> Frame
     requires { (id_of s ≤ 127) × (rule_upload s ≡ true) }
     ensures { result ≡ Sdo.segment_reply toggle s }
@@ -133,5 +106,5 @@ pub fn segment_reply(toggle: u8, s: State) -> Frame
     if sends_segment(toggle, u) {
         return segment(s);
     }
-    aborted(open_index(u), 0, segment_code(u), s)
+    Named::new(open_index(u), 0, s).aborted(segment_code(u).into())
 }

@@ -10,32 +10,27 @@ use wire::frames::{can_id, data, flag, kind_of, length, sample};
 
 // ---- SDO
 
-// The size that a download's first byte indicates, 0 for none.
-fn size_in(b: u8) -> u8
+// The size that a download's first byte indicates, where it indicates one.
+#[tactic(auto, unfolding(model::specs::Service::size_in))]
+fn size_in(b: u8) -> Option<u8>
     ensures { result ≡ Asked.size_in b }
 {
-    if b % 2 == 1 { 4 - b / 4 % 4 } else { 0 }
+    (b % 2 == 1).then_some(4 - b / 4 % 4)
 }
 
 // A request by its first byte; a download that is not expedited is unknown.
+#[tactic(auto, unfolding(model::specs::Choice::first_hit))]
 fn sdo_by(first: u8, index: u16, sub: u8, four: u32) -> SdoRequest
     ensures { result ≡ Asked.sdo_by first index sub four }
 {
-    let command = first / 32;
-    match command {
+    match first / 32 {
         0 => SdoRequest::DownloadSegment,
-        1 => {
-            if first / 2 % 2 == 1 {
-                let size = size_in(first);
-                return SdoRequest::Download {
-                    index,
-                    sub,
-                    size,
-                    data: four,
-                };
-            }
-            SdoRequest::Unknown { index, sub }
-        }
+        1 if first / 2 % 2 == 1 => SdoRequest::Download {
+            index,
+            sub,
+            size: size_in(first),
+            data: four,
+        },
         2 => SdoRequest::Upload { index, sub },
         3 => SdoRequest::UploadSegment {
             toggle: first / 16 % 2,
@@ -46,114 +41,93 @@ fn sdo_by(first: u8, index: u16, sub: u8, four: u32) -> SdoRequest
 }
 
 // The request of an SDO frame.
+#[tactic(auto, unfolding(model::specs::Service::sdo_request))]
 fn sdo_request(e: &[u8]) -> SdoRequest
     ensures { result ≡ Asked.sdo_request e.now }
 {
-    let first = data(e, 0);
-    let index = get16(e, 6);
-    let sub = data(e, 3);
-    let four = get32(e, 9);
-    sdo_by(first, index, sub, four)
+    sdo_by(data(e, 0), get16(e, 6), data(e, 3), get32(e, 9))
 }
 
 // ---- LSS
 
-// A request by its first byte. Each of a run of four has its own arm.
+// A request by its first byte.
+#[tactic(auto, unfolding(model::specs::Choice::first_hit))]
 fn lss_by(command: u8, one: u8, two: u8, number: u32) -> LssRequest
     ensures { result ≡ Asked.lss_by command one two number }
 {
     match command {
         0x04 => LssRequest::SwitchMode(one),
-        0x40 => LssRequest::Select { part: 0, number },
-        0x41 => LssRequest::Select { part: 1, number },
-        0x42 => LssRequest::Select { part: 2, number },
-        0x43 => LssRequest::Select { part: 3, number },
+        0x40..=0x43 => LssRequest::Select {
+            part: command - 0x40,
+            number,
+        },
         0x11 => LssRequest::SetNodeId(one),
         0x13 => LssRequest::SetBitIndex {
             table: one,
             bit: two,
         },
         0x17 => LssRequest::StorePending,
-        0x5a => LssRequest::AskIdentity(0),
-        0x5b => LssRequest::AskIdentity(1),
-        0x5c => LssRequest::AskIdentity(2),
-        0x5d => LssRequest::AskIdentity(3),
+        0x5a..=0x5d => LssRequest::AskIdentity(command - 0x5a),
         0x5e => LssRequest::AskNodeId,
         _ => LssRequest::OtherLss,
     }
 }
 
 // The request of an LSS frame.
+#[tactic(auto, unfolding(model::specs::Service::lss_request))]
 fn lss_request(e: &[u8]) -> LssRequest
     ensures { result ≡ Asked.lss_request e.now }
 {
-    let command = data(e, 0);
-    let one = data(e, 1);
-    let two = data(e, 2);
-    let number = get32(e, 6);
-    lss_by(command, one, two, number)
+    lss_by(data(e, 0), data(e, 1), data(e, 2), get32(e, 6))
 }
 
 // ---- Frames and events
 
 // A remote frame: only those on a TPDO's CAN-ID mean anything.
+#[tactic(auto, unfolding(model::specs::Service::remote_service))]
 fn remote_service(id: u16) -> Service
     ensures { result ≡ Asked.remote_service id }
 {
-    if id <= 0x180 {
-        return Service::Nothing;
-    }
-    if id <= 0x1ff {
-        return Service::Remote {
+    match id {
+        0x181..=0x1ff => Service::Remote {
             to: (id - 0x180) as u8,
-        };
+        },
+        _ => Service::Nothing,
     }
-    Service::Nothing
 }
 
 // A frame: each service has its CAN-ID and length.
+#[tactic(auto, unfolding(model::specs::Service::frame_service, model::specs::Choice::first_hit))]
 fn frame_service(e: &[u8]) -> Service
     ensures { result ≡ Asked.frame_service e.now }
 {
     let id = can_id(e);
-    let len = length(e);
     if flag(e) == 1 {
         return remote_service(id);
     }
-    if (id == 0) & (len == 2) {
-        return Service::Nmt {
+    match (id, length(e)) {
+        (0, 2) => Service::Nmt {
             command: data(e, 0),
             to: data(e, 1),
-        };
-    }
-    if (id == 0x80) & (len == 0) {
-        return Service::Sync;
-    }
-    if (0x601 <= id) & (id <= 0x67f) & (len == 8) {
-        let request = sdo_request(e);
-        return Service::Sdo {
+        },
+        (0x80, 0) => Service::Sync,
+        (0x601..=0x67f, 8) => Service::Sdo {
             to: (id - 0x600) as u8,
-            request,
-        };
+            request: sdo_request(e),
+        },
+        (0x7e5, 8) => Service::Lss(lss_request(e)),
+        _ => Service::Nothing,
     }
-    if (id == 0x7e5) & (len == 8) {
-        let request = lss_request(e);
-        return Service::Lss(request);
-    }
-    Service::Nothing
 }
 
 // An event.
+#[tactic(auto, unfolding(model::specs::Service::service, model::specs::Choice::first_hit))]
 pub fn service(e: &[u8]) -> Service
     ensures { result ≡ Asked.service e.now }
 {
-    let kind = kind_of(e);
-    match kind {
+    match kind_of(e) {
         2 => Service::Tick,
-        3 => {
-            let fv = Fv(sample(e));
-            Service::Sample(fv)
-        }
+        3 => Service::Sample(Fv(sample(e))),
         _ => frame_service(e),
     }
 }

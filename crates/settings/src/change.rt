@@ -1,7 +1,5 @@
 // What a write does to the saved parameters in force, and what a load word does: the parameter, and the forced changes of validity bytes.
-ghost use Rattle.std.specs.Prelude.{◌≡◌, cond};
-ghost use Rattle.model.specs.declared.Kind.TheVariants as K;
-ghost use Rattle.model.specs.declared.Value.TheVariants as Typed;
+ghost use Rattle.std.specs.Prelude.{◌≡◌};
 ghost use Rattle.model.specs.declared.Parameter.TheVariants.{P13FE, P51FE};
 ghost use Rattle.model.specs.declared.Change.TheVariants.{Write, TakeOut};
 ghost use Rattle.model.specs.Values.{kind_of};
@@ -15,139 +13,38 @@ use super::table::value_of;
 use super::values::number_of;
 use model::{Groups, Parameter, Settings, Value};
 
-// ---- One parameter set, by its type: what the caller shows is that the parameter has that type
-
-// A parameter of one byte.
-fn put8(k: Settings, p: Parameter, n: u8) -> Settings
-    requires { K.U8 ≡ (row p).kind }
-    ensures { result ≡ Put.put p (Typed.U8 n) k }
-{
-    let mut t = k;
-    match p {
-        Parameter::P1301s1 => {
-            t.communication.srdo.direction = n;
-            t
-        }
-        Parameter::P1301s3 => {
-            t.communication.srdo.validation = n;
-            t
-        }
-        Parameter::P1800s2 => {
-            t.communication.tpdo.kind = n;
-            t
-        }
-        Parameter::P13FE => {
-            t.communication.valid = n;
-            t
-        }
-        Parameter::P2330 => {
-            t.application.autostart = n;
-            t
-        }
-        Parameter::P6132 => {
-            t.application.digits = n;
-            t
-        }
-        Parameter::P51FE => {
-            t.application.valid = n;
-            t
-        }
-        _ => t,
-    }
-}
-
-// One of two bytes.
-fn put16(k: Settings, p: Parameter, n: u16) -> Settings
-    requires { K.U16 ≡ (row p).kind }
-    ensures { result ≡ Put.put p (Typed.U16 n) k }
-{
-    let mut t = k;
-    match p {
-        Parameter::P1017 => {
-            t.communication.heartbeat = n;
-            t
-        }
-        Parameter::P1301s2 => {
-            t.communication.srdo.refresh = n;
-            t
-        }
-        Parameter::P1800s5 => {
-            t.communication.tpdo.period = n;
-            t
-        }
-        Parameter::P13FF => {
-            t.communication.signature = n;
-            t
-        }
-        Parameter::P51FF => {
-            t.application.signature = n;
-            t
-        }
-        _ => t,
-    }
-}
-
-// One of four: the COB-IDs.
-fn put32(k: Settings, p: Parameter, n: u32) -> Settings
-    requires { K.U32 ≡ (row p).kind }
-    ensures { result ≡ Put.put p (Typed.U32 n) k }
-{
-    let mut t = k;
-    match p {
-        Parameter::P1301s5 => {
-            t.communication.srdo.first = n;
-            t
-        }
-        Parameter::P1301s6 => {
-            t.communication.srdo.second = n;
-            t
-        }
-        _ => t,
-    }
-}
-
-// A Real32.
-fn put_real(k: Settings, p: Parameter, x: f32) -> Settings
-    requires { K.Real32 ≡ (row p).kind }
-    ensures { result ≡ Put.put p (Typed.Real32 x) k }
-{
-    let mut t = k;
-    match p {
-        Parameter::P6121 => {
-            t.application.scaling.low = x;
-            t
-        }
-        Parameter::P6123 => {
-            t.application.scaling.high = x;
-            t
-        }
-        Parameter::P6124 => {
-            t.application.scaling.offset = x;
-            t
-        }
-        _ => t,
-    }
-}
-
-// One parameter set. None is an Integer32.
-fn put(k: Settings, p: Parameter, v: Value) -> Settings
+// One parameter set to a value of its type. None is an Integer32.
+#[tactic(auto, unfolding(crate::specs::Put::put))]
+fn put(k: &mut Settings, p: Parameter, v: Value)
     requires { kind_of v ≡ (row p).kind }
-    ensures { result ≡ Put.put p v k }
+    ensures { k.new ≡ Put.put p v k.old }
 {
-    match v {
-        Value::U8(n) => put8(k, p, n),
-        Value::U16(n) => put16(k, p, n),
-        Value::U32(n) => put32(k, p, n),
-        Value::Integer32(_) => k,
-        Value::Real32(x) => put_real(k, p, x),
+    match (p, v) {
+        (Parameter::P1017, Value::U16(n)) => k.communication.heartbeat = n,
+        (Parameter::P1301s1, Value::U8(n)) => k.communication.srdo.direction = n,
+        (Parameter::P1301s2, Value::U16(n)) => k.communication.srdo.refresh = n,
+        (Parameter::P1301s3, Value::U8(n)) => k.communication.srdo.validation = n,
+        (Parameter::P1301s5, Value::U32(n)) => k.communication.srdo.first = n,
+        (Parameter::P1301s6, Value::U32(n)) => k.communication.srdo.second = n,
+        (Parameter::P1800s2, Value::U8(n)) => k.communication.tpdo.kind = n,
+        (Parameter::P1800s5, Value::U16(n)) => k.communication.tpdo.period = n,
+        (Parameter::P13FE, Value::U8(n)) => k.communication.valid = n,
+        (Parameter::P13FF, Value::U16(n)) => k.communication.signature = n,
+        (Parameter::P2330, Value::U8(n)) => k.application.autostart = n,
+        (Parameter::P6121, Value::Real32(x)) => k.application.scaling.low = x,
+        (Parameter::P6123, Value::Real32(x)) => k.application.scaling.high = x,
+        (Parameter::P6124, Value::Real32(x)) => k.application.scaling.offset = x,
+        (Parameter::P6132, Value::U8(n)) => k.application.digits = n,
+        (Parameter::P51FE, Value::U8(n)) => k.application.valid = n,
+        (Parameter::P51FF, Value::U16(n)) => k.application.signature = n,
+        _ => unreachable!(),
     }
 }
 
-// ---- The forced changes
-
-// Whether a change of a parameter sets 13FEh to 0: it is covered by 13FFh:1, or is that signature.
-fn revokes_c(p: Parameter) -> bool
-    ensures { result ≡ revokes p P13FE }
+// What a change of a parameter forces: 0 in the validity byte of the group whose signature covers the parameter, or is it.
+#[tactic(auto, unfolding(crate::specs::Put::revoke, model::specs::Validity::revokes))]
+fn revoke(k: &mut Settings, p: Parameter)
+    ensures { k.new ≡ Put.revoke (revokes p P13FE) (revokes p P51FE) k.old }
 {
     match p {
         Parameter::P1301s1
@@ -155,64 +52,43 @@ fn revokes_c(p: Parameter) -> bool
         | Parameter::P1301s3
         | Parameter::P1301s5
         | Parameter::P1301s6
-        | Parameter::P13FF => true,
-        _ => false,
-    }
-}
-
-// Whether it sets 51FEh to 0.
-fn revokes_a(p: Parameter) -> bool
-    ensures { result ≡ revokes p P51FE }
-{
-    match p {
+        | Parameter::P13FF => k.communication.valid = 0,
         Parameter::P6121
         | Parameter::P6123
         | Parameter::P6124
         | Parameter::P6132
-        | Parameter::P51FF => true,
-        _ => false,
+        | Parameter::P51FF => k.application.valid = 0,
+        _ => {}
     }
 }
 
-// A validity byte, or 0 in its stead.
-fn zero_if(clear: bool, byte: u8) -> u8
-    ensures { result ≡ cond clear 0 byte }
-{
-    if clear { 0 } else { byte }
-}
-
-// The settings with 13FEh set to 0 where c holds, and 51FEh where a holds.
-fn revoke(k: Settings, c: bool, a: bool) -> Settings
-    ensures { result ≡ Put.revoke c a k }
-{
-    let valid_c = zero_if(c, k.communication.valid);
-    let valid_a = zero_if(a, k.application.valid);
-    let mut t = k;
-    t.communication.valid = valid_c;
-    t.application.valid = valid_a;
-    t
-}
-
-// ---- The changes
-
 // The settings after a write. What counts as a change is told by the bytes: -0.0 over 0.0 is one, a value over itself is none.
+#[tactic(auto, using(crate::proofs::Changed::changed, crate::proofs::Changed::unchanged))]
 pub fn write(k: Settings, p: Parameter, v: Value) -> Settings
     requires { kind_of v ≡ (row p).kind }
     ensures { result ≡ applied (Write p v) k nothing }
 {
-    let changed = number_of(v) != number_of(value_of(k, p));
-    let c = revokes_c(p) & changed;
-    let a = revokes_a(p) & changed;
-    revoke(put(k, p, v), c, a)
+    let mut t = k;
+    put(&mut t, p, v);
+    if number_of(v) != number_of(value_of(k, p)) {
+        revoke(&mut t, p);
+    }
+    t
 }
 
 // The settings after a load word: it sets the validity bytes of its groups to 0, and the other values stay.
+#[tactic(auto, unfolding(model::specs::Changes::applied, model::specs::Changes::effect))]
 pub fn take_out(k: Settings, gs: Groups) -> Settings
     ensures { result ≡ applied (TakeOut gs) k nothing }
 {
+    let mut t = k;
     match gs {
-        Groups::Both => revoke(k, true, true),
-        Groups::OnlyC => revoke(k, true, false),
-        Groups::OnlyA => revoke(k, false, true),
+        Groups::Both => {
+            t.communication.valid = 0;
+            t.application.valid = 0;
+        }
+        Groups::OnlyC => t.communication.valid = 0,
+        Groups::OnlyA => t.application.valid = 0,
     }
+    t
 }

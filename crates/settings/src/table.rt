@@ -17,10 +17,10 @@ use reading::judge_real;
 pub fn star(p: Parameter) -> bool
     ensures { result ≡ (Table.row p).star }
 {
-    match p {
-        Parameter::P1017 | Parameter::P1800s2 | Parameter::P1800s5 | Parameter::P2330 => false,
-        _ => true,
-    }
+    !matches!(
+        p,
+        Parameter::P1017 | Parameter::P1800s2 | Parameter::P1800s5 | Parameter::P2330
+    )
 }
 
 // The type.
@@ -42,17 +42,18 @@ pub fn kind(p: Parameter) -> Kind
 // ---- Ranges
 
 // A value that is to lie from lo to hi.
+#[tactic(auto, unfolding(model::specs::Settings::judge))]
 fn judge_between(lo: u32, hi: u32, v: Value) -> Verdict
     ensures { result ≡ Table.judge (Table.between lo hi) v }
 {
     let n = number_of(v);
-    if n <= hi {
-        if lo <= n {
-            return Verdict::Inside;
-        }
-        return Verdict::Below;
+    if n > hi {
+        Verdict::Above
+    } else if n < lo {
+        Verdict::Below
+    } else {
+        Verdict::Inside
     }
-    Verdict::Above
 }
 
 // A value that is to be one of a set, by whether it is.
@@ -70,24 +71,25 @@ fn judge_member(member: bool) -> Verdict
 pub fn is_first_cob(n: u32) -> bool
     ensures { result ≡ Table.odd_cob n }
 {
-    (0x101 <= n) & (n <= 0x17f) & (n % 2 == 1)
+    matches!(n, 0x101..=0x17f if n % 2 == 1)
 }
 
-// Whether it is one that 1301h:6 may have.
+// Whether it is one that 1301h:6 may have: the one after a first.
 pub fn is_second_cob(n: u32) -> bool
     ensures { result ≡ Table.even_cob n }
 {
-    (0x102 <= n) & (n <= 0x180) & (n % 2 == 0)
+    0 < n && is_first_cob(n - 1)
 }
 
 // Whether it is a transmission type.
 pub fn is_type(n: u32) -> bool
     ensures { result ≡ Table.tpdo_type n }
 {
-    (n <= 240) | ((252 <= n) & (n <= 255))
+    matches!(n, 0..=240 | 252..=255)
 }
 
 // How a value stands to the range of a parameter.
+#[tactic(auto, unfolding(model::specs::Settings::judge))]
 pub fn judge(p: Parameter, v: Value) -> Verdict
     ensures { result ≡ Table.judge (Table.row p).range v }
 {
@@ -108,67 +110,53 @@ pub fn judge(p: Parameter, v: Value) -> Verdict
 // ---- Defaults
 
 // The default of 1301h:5 for a Node-ID, the same for all above 64.
+#[tactic(auto, unfolding(model::specs::Settings::first_cob))]
 pub fn first_cob(id: u8) -> u32
     ensures { result ≡ Table.first_cob id }
 {
-    if 64 < id { 0x17f } else { 0xff + 2 * id as u32 }
+    0xff + 2 * u32::from(id.min(64))
 }
 
-// The default of 1301h:6.
+// The default of 1301h:6, the one after it.
+#[tactic(auto, unfolding(model::specs::Settings::first_cob, model::specs::Settings::second_cob))]
 pub fn second_cob(id: u8) -> u32
     ensures { result ≡ Table.second_cob id }
 {
-    if 64 < id {
-        0x180
-    } else {
-        0x100 + 2 * id as u32
-    }
+    first_cob(id) + 1
 }
 
-// Group C as it leaves the factory.
-fn default_c(id: u8) -> Communication
-    ensures { result ≡ (Table.made (default_for id)).communication }
-{
-    let srdo = SrdoSettings {
-        direction: 1,
-        refresh: 25,
-        validation: 20,
-        first: first_cob(id),
-        second: second_cob(id),
-    };
-    let tpdo = TpdoSettings {
-        kind: 254,
-        period: 100,
-    };
-    Communication {
-        heartbeat: 0,
-        srdo,
-        tpdo,
-        valid: 0,
-        signature: 0,
-    }
-}
-
-// All parameters at their defaults for a Node-ID.
+// All parameters at their defaults for a Node-ID, as they leave the factory.
 pub fn defaults(id: u8) -> Settings
     ensures { result ≡ Table.made (default_for id) }
 {
-    let scaling = Scaling {
-        low: 0.0,
-        high: 160.0,
-        offset: 0.0,
-    };
-    let application = Application {
-        autostart: 0,
-        scaling,
-        digits: 2,
-        valid: 0,
-        signature: 0,
-    };
-    let communication = default_c(id);
     Settings {
-        communication,
-        application,
+        communication: Communication {
+            heartbeat: 0,
+            srdo: SrdoSettings {
+                direction: 1,
+                refresh: 25,
+                validation: 20,
+                first: first_cob(id),
+                second: second_cob(id),
+            },
+            tpdo: TpdoSettings {
+                kind: 254,
+                period: 100,
+            },
+            valid: 0,
+            signature: 0,
+        },
+        application: Application {
+            autostart: 0,
+            scaling: Scaling {
+                low: 0.0,
+                high: 160.0,
+                offset: 0.0,
+            },
+            digits: 2,
+            valid: 0,
+            signature: 0,
+        },
     }
 }
 

@@ -1,11 +1,12 @@
 // An entry's value travels with its type: its width, its number, its float and its bytes, and the value that some bytes are.
+// These are functions that docs/PROMISES.md names, and no `From`: that would not say which of a value's numbers it gives.
 ghost use Rattle.std.specs.Prelude.{◌≡◌, ◌≤◌};
 ghost use Rattle.model.specs.Bytes.{low_bytes};
 ghost use Rattle.model.specs.Values.{width_of, kind_of, number_of, float_of, decoded};
 ghost use Rattle.settings.specs.Four.{four_bytes};
 
 use model::{Kind, Value};
-use reading::{bits_of, real_of, signed_of, unsigned_of};
+use reading::{bits_of, real_of};
 
 // How many bytes a type has.
 pub fn width_of(k: Kind) -> u8
@@ -14,9 +15,7 @@ pub fn width_of(k: Kind) -> u8
     match k {
         Kind::U8 => 1,
         Kind::U16 => 2,
-        Kind::U32 => 4,
-        Kind::Integer32 => 4,
-        Kind::Real32 => 4,
+        Kind::U32 | Kind::Integer32 | Kind::Real32 => 4,
     }
 }
 
@@ -38,10 +37,10 @@ pub fn number_of(v: Value) -> u32
     ensures { result ≡ number_of v }
 {
     match v {
-        Value::U8(n) => n as u32,
-        Value::U16(n) => n as u32,
+        Value::U8(n) => u32::from(n),
+        Value::U16(n) => u32::from(n),
         Value::U32(n) => n,
-        Value::Integer32(z) => unsigned_of(z),
+        Value::Integer32(z) => z.cast_unsigned(),
         Value::Real32(x) => bits_of(x),
     }
 }
@@ -51,11 +50,8 @@ pub fn float_of(v: Value) -> f32
     ensures { result ≡ float_of v }
 {
     match v {
-        Value::U8(n) => real_of(n as u32),
-        Value::U16(n) => real_of(n as u32),
-        Value::U32(n) => real_of(n),
-        Value::Integer32(z) => real_of(unsigned_of(z)),
         Value::Real32(x) => x,
+        _ => real_of(number_of(v)),
     }
 }
 
@@ -64,38 +60,26 @@ pub fn decode(k: Kind, d: u32) -> Value
     ensures { result ≡ decoded k d }
 {
     match k {
-        Kind::U8 => Value::U8((d % 256) as u8),
-        Kind::U16 => Value::U16((d % 65536) as u16),
+        Kind::U8 => Value::U8((d & 0xff) as u8),
+        Kind::U16 => Value::U16((d & 0xffff) as u16),
         Kind::U32 => Value::U32(d),
-        Kind::Integer32 => Value::Integer32(signed_of(d)),
+        Kind::Integer32 => Value::Integer32(d.cast_signed()),
         Kind::Real32 => Value::Real32(real_of(d)),
     }
 }
 
 // The four bytes of a number, low byte first.
+#[tactic(auto, unfolding(model::specs::Bytes::low_bytes))]
 pub fn word(n: u32) -> [u8; 4]
     ensures { result ≡ low_bytes 4 n }
 {
-    let n1 = n / 256;
-    let n2 = n1 / 256;
-    let n3 = n2 / 256;
-    [
-        (n % 256) as u8,
-        (n1 % 256) as u8,
-        (n2 % 256) as u8,
-        (n3 % 256) as u8,
-    ]
+    n.to_le_bytes()
 }
 
 // The four bytes that carry a value, low byte first: its own, then zeros.
+#[tactic(auto, unfolding(model::specs::Bytes::low_bytes, crate::specs::Four::four_bytes))]
 pub fn encode(v: Value) -> [u8; 4]
     ensures { result ≡ four_bytes v }
 {
-    match v {
-        Value::U8(n) => [n, 0, 0, 0],
-        Value::U16(n) => [(n % 256) as u8, (n / 256) as u8, 0, 0],
-        Value::U32(n) => word(n),
-        Value::Integer32(z) => word(unsigned_of(z)),
-        Value::Real32(x) => word(bits_of(x)),
-    }
+    word(number_of(v))
 }

@@ -1,4 +1,4 @@
--- the changes that leave the parameters
+-- no LSS request alters the parameters
 pub mod Altered
 -- every change that a service makes suits its code
 pub mod Suit

@@ -1,5 +1,5 @@
 -- What a service is asked, as code has it, and what a change must be for its code. Assumes nothing.
-use Rattle.std.specs.Prelude.{ℕ, ◌≤◌, ◌≡◌, Bool, true, false, List}
+use Rattle.std.specs.Prelude.{ℕ, ◌≤◌, ◌≡◌, Bool, true, false, List, Option, Some, None}
 use Rattle.model.specs.declared.Service.{Service}
 use Rattle.model.specs.declared.Change.{Change}
 use Rattle.model.specs.declared.Change.TheVariants.{Keep, Write, Save, TakeOut, Load, SavePending}
@@ -9,24 +9,24 @@ use Rattle.model.specs.Settings.{row}
 use Rattle.model.specs.Store.{read}
 use Rattle.model.specs.Frames.{frames_of}
 use Rattle.model.specs.Step.{change_of, reply}
-use Rattle.image.specs.declared.Sizes.{Sizes}
-use Rattle.store.specs.Saved.{Kept}
+use Rattle.store.specs.declared.saved.Contents.{Contents}
 use Rattle.step.specs.declared.ask.Asked.{Asked}
 
--- for a load, z are the sizes of what is saved in the store; no other change reads it
-abbrev pub SizesFor : Change → List ℕ → Sizes → Type 0
-SizesFor Keep st z = Unit {0}
-SizesFor (Write p x) st z = Unit {0}
-SizesFor (Save gs) st z = Unit {0}
-SizesFor (TakeOut gs) st z = Unit {0}
-SizesFor (Load gs id) st z = Kept st z
-SizesFor SavePending st z = Unit {0}
+-- for a load, the store was read, and this is what it holds; no other change reads it
+abbrev pub ReadFor : Change → List ℕ → Option Contents → Type 0
+ReadFor Keep st o = Unit {0}
+ReadFor (Write p x) st o = Unit {0}
+ReadFor (Save gs) st o = Unit {0}
+ReadFor (TakeOut gs) st o = Unit {0}
+ReadFor (Load gs id) st (Some h) = h.store.now ≡ st
+ReadFor (Load gs id) st None = ⊥
+ReadFor SavePending st o = Unit {0}
 
--- the change of a service, its reply, and the sizes
+-- the change of a service, its reply, and what the store holds
 pub record IsAsked (v : Service) (s : State) (st : List ℕ) (r : Asked) : Type 0 where
   pub change : r.change ≡ change_of v s (read st)
   pub frames : frames_of r.reply ≡ reply v s
-  pub sizes : SizesFor r.change st r.sizes
+  pub contents : ReadFor r.change st r.contents
 
 -- a write has a value of its parameter's type, and a load an ID of a node
 abbrev pub Suits : Change → Type 0

@@ -1,78 +1,70 @@
 // What NMT, SDO and LSS are asked: the change that a service makes, its reply, at most one frame, and the rest of the state after an SDO request.
-ghost use Rattle.std.specs.Prelude.{◌≡◌, List, [], ℕ, length};
+ghost use Rattle.std.specs.Prelude.{◌≡◌, List, ℕ};
 ghost use Rattle.model.specs.declared.Service.TheVariants as Service;
 ghost use Rattle.model.specs.declared.Change.TheVariants as Change;
-ghost use Rattle.model.specs.Frames.{frames_of};
 ghost use Rattle.model.specs.Store.{Saved};
 ghost use Rattle.model.specs.Sdo as Sdo;
 ghost use Rattle.model.specs.Step as Step;
 ghost use Rattle.rules.specs.Fit.{Fit};
 ghost use Rattle.step.specs.Asked.{IsAsked};
 
-use image::Sizes;
 use lss::lss_change;
-use model::{Change, Core, Groups, LssRequest, Reply, SdoRequest, State};
+use model::{Change, Core, Frame, Groups, LssRequest, PRE_OPERATIONAL, STOPPED, SdoRequest, State};
+use nmt::commands::Command;
 use nmt::is_for;
 use sdo::serve::{serve, upload_after};
-use store::load::address;
-use store::saved::saved_sizes;
-use time::frames::silent;
+use store::saved::Contents;
 
-// What a service comes to. Where the change is a load, the store was read, and these are the sizes of what is saved in it.
+// What a service comes to. Where the change is a load, the store was read, and this is what it holds.
 #[derive(Clone, Copy)]
-pub struct Asked {
+pub struct Asked<'a> {
     pub change: Change,
-    pub reply: Reply,
-    pub sizes: Sizes,
+    pub reply: Option<Frame>,
+    pub contents: Option<Contents<'a>>,
 }
 
 // What a service comes to for which the store is not read.
-fn unread(change: Change, reply: Reply) -> Asked
+fn unread<'a>(change: Change, reply: Option<Frame>) -> Asked<'a>
     ensures { (result.change ≡ change) × (result.reply ≡ reply) }
 {
-    let sizes = Sizes { n: 0, c: 0, a: 0 };
     Asked {
         change,
         reply,
-        sizes,
+        contents: None,
     }
 }
 
 // A service that neither changes nor replies.
-fn no_matter() -> Asked
-    ensures { (result.change ≡ Change.Keep) × (frames_of result.reply ≡ []) }
+fn no_matter<'a>() -> Asked<'a>
+    ensures { (result.change ≡ Change.Keep) × (result.reply ≡ None) }
 {
-    unread(Change::Keep, silent())
+    unread(Change::Keep, None)
 }
 
 // An NMT command: a reset is a load, with the ID that becomes active. The store is read once for all that follows.
-pub fn ask_nmt(command: u8, to: u8, s: State, store: &[u8]) -> Asked
-    requires { length store.now ≡ 64 }
+#[tactic(auto, unfolding(model::specs::Step::change_of, model::specs::Step::reply, model::specs::Nmt::nmt_change, model::specs::Nmt::reset_asked, model::specs::Choice::first_hit))]
+pub fn ask_nmt(command: u8, to: u8, s: State, store: &[u8; 64]) -> Asked<'_>
     ensures { IsAsked (Service.Nmt command to) s store.now result }
 {
     if !is_for(to, s.core.active.id) {
         return no_matter();
     }
-    match command {
-        129 => {
-            let sizes = saved_sizes(store);
-            let saved = address(store, sizes);
-            let change = Change::Load(Groups::Both, saved.id);
-            let reply = silent();
+    match Command::try_from(command) {
+        Ok(Command::ResetNode) => {
+            let contents = Contents::read(store);
+            let change = Change::Load(Groups::Both, contents.address().id);
             Asked {
                 change,
-                reply,
-                sizes,
+                reply: None,
+                contents: Some(contents),
             }
         }
-        130 => {
-            let sizes = saved_sizes(store);
+        Ok(Command::ResetCommunication) => {
             let change = Change::Load(Groups::OnlyC, s.core.pending.id);
-            let reply = silent();
             Asked {
                 change,
-                reply,
-                sizes,
+                reply: None,
+                contents: Some(Contents::read(store)),
             }
         }
         _ => no_matter(),
@@ -83,24 +75,24 @@ pub fn ask_nmt(command: u8, to: u8, s: State, store: &[u8]) -> Asked
 fn serves(to: u8, s: State) -> bool
     ensures { result ≡ Sdo.serves to s }
 {
-    (to == s.core.active.id) & (s.core.nmt != 4)
+    (to == s.core.active.id) & (s.core.nmt != STOPPED)
 }
 
 // An SDO request, where it is served.
-pub fn ask_sdo(to: u8, request: SdoRequest, s: State) -> Asked
+#[tactic(auto, using(crate::proofs::Unread::sdo_unread), unfolding(model::specs::Step::change_of, model::specs::Step::reply))]
+pub fn ask_sdo<'a>(to: u8, request: SdoRequest, s: State) -> Asked<'a>
     requires { Fit s }
     ensures { (st : List ℕ) → IsAsked (Service.Sdo to request) s st result }
 {
     if serves(to, s) {
         let served = serve(request, s);
-        let change = served.change;
-        let reply = served.reply;
-        return unread(change, reply);
+        return unread(served.change, served.reply);
     }
     no_matter()
 }
 
 // The core after it, the restart of a timer apart: it moves the open upload.
+#[tactic(auto, unfolding(model::specs::Step::heard))]
 pub fn sdo_heard(to: u8, request: SdoRequest, s: State) -> Core
     requires { Fit s }
     ensures { result ≡ Step.heard (Service.Sdo to request) s }
@@ -115,10 +107,11 @@ pub fn sdo_heard(to: u8, request: SdoRequest, s: State) -> Core
 }
 
 // The change of an LSS request, which is served in Pre-operational alone.
+#[tactic(auto, unfolding(model::specs::Step::change_of))]
 pub fn ask_lss(request: LssRequest, s: State) -> Change
     ensures { (sv : Saved) → result ≡ Step.change_of (Service.Lss request) s sv }
 {
-    if s.core.nmt == 127 {
+    if s.core.nmt == PRE_OPERATIONAL {
         return lss_change(request, s);
     }
     Change::Keep

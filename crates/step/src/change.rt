@@ -1,5 +1,5 @@
 // The state and the store after a change. Nothing else touches the saved parameters or the store.
-ghost use Rattle.std.specs.Prelude.{◌≡◌, length};
+ghost use Rattle.std.specs.Prelude.{◌≡◌, List, ℕ};
 ghost use Rattle.model.specs.declared.Service.{Service};
 ghost use Rattle.model.specs.declared.State.{State};
 ghost use Rattle.model.specs.Frames.{frames_of};
@@ -7,49 +7,51 @@ ghost use Rattle.model.specs.Store.{read};
 ghost use Rattle.model.specs.Changes.{applied, stored};
 ghost use Rattle.model.specs.Nmt as Nmt;
 ghost use Rattle.model.specs.Step as Step;
-ghost use Rattle.store.specs.Saved.{Kept};
-ghost use Rattle.step.specs.Asked.{Suits, SizesFor, alters_of};
+ghost use Rattle.step.specs.Asked.{Suits, ReadFor, alters_of};
 
-use image::Sizes;
-use model::{Change, Core, Groups, Reply, Settings, State};
+use model::{Change, Core, Frame, Groups, Settings, State};
 use nmt::{boot_up, reset};
 use settings::change::{take_out, write};
-use store::load::{address, load};
+use store::saved::Contents;
 use store::write::{readdress, save};
-use time::frames::silent;
-use time::restarts::{restart, timer_of};
+use time::restarts::restart_for;
 
-// The parameters after it. For a load, z are the sizes of what is saved.
-pub fn settings_after(c: Change, k: Settings, store: &[u8], z: Sizes) -> Settings
-    requires { Suits c × (SizesFor c store.now z × (length store.now ≡ 64)) }
-    ensures { result ≡ applied c k (read store.now) }
+// The parameters after it. Where it is a load, the store was read.
+#[tactic(auto, unfolding(model::specs::Changes::applied, model::specs::Changes::effect))]
+pub fn settings_after(c: Change, k: Settings, contents: Option<Contents>) -> Settings
+    requires { Suits c }
+    ensures { (st : List ℕ) → ReadFor c st contents.entry → result ≡ applied c k (read st) }
 {
     match c {
         Change::Write(p, x) => write(k, p, x),
         Change::TakeOut(gs) => take_out(k, gs),
-        Change::Load(gs, id) => load(gs, id, k, store, z),
+        Change::Load(gs, id) => match contents {
+            Some(contents) => contents.load(gs, id, k),
+            None => k,
+        },
         _ => k,
     }
 }
 
 // The rest of the state after a load, with the parameters k that were loaded: it is a reset.
-fn loaded(gs: Groups, id: u8, k: Settings, c: Core, store: &[u8], z: Sizes) -> Core
-    requires { (length store.now ≡ 64) × Kept store.now z }
-    ensures { result ≡ Nmt.reset gs id (read store.now) k c }
+fn loaded(gs: Groups, id: u8, k: Settings, c: Core, contents: Contents) -> Core
+    ensures { result ≡ Nmt.reset gs id (read contents.entry.store.now) k c }
 {
-    let saved = address(store, z);
-    reset(gs, id, saved.bit, k, c)
+    reset(gs, id, contents.address().bit, k, c)
 }
 
 // The rest of the state after a service and its change: h is what the service alone leaves of it, `old` what it was before, k the parameters
 // after the change. A written period or type restarts its timer.
-pub fn core_after(c: Change, h: Core, old: Core, k: Settings, store: &[u8], z: Sizes) -> Core
-    requires { SizesFor c store.now z × (length store.now ≡ 64) }
-    ensures { (v : Service) (s : State) → h ≡ Step.heard v s → old ≡ s.core → result ≡ Step.core_after c v s (read store.now) k }
+#[tactic(auto, unfolding(model::specs::Step::core_after))]
+pub fn core_after(c: Change, h: Core, old: Core, k: Settings, contents: Option<Contents>) -> Core
+    ensures { (v : Service) (s : State) (st : List ℕ) → h ≡ Step.heard v s → old ≡ s.core → ReadFor c st contents.entry → result ≡ Step.core_after c v s (read st) k }
 {
     match c {
-        Change::Write(p, _) => restart(timer_of(p), h),
-        Change::Load(gs, id) => loaded(gs, id, k, old, store, z),
+        Change::Write(p, _) => restart_for(p, h),
+        Change::Load(gs, id) => match contents {
+            Some(contents) => loaded(gs, id, k, old, contents),
+            None => h,
+        },
         _ => h,
     }
 }
@@ -58,43 +60,29 @@ pub fn core_after(c: Change, h: Core, old: Core, k: Settings, store: &[u8], z: S
 pub fn alters(c: Change) -> bool
     ensures { result ≡ alters_of c }
 {
-    match c {
-        Change::Write(_, _) => true,
-        Change::TakeOut(_) => true,
-        Change::Load(_, _) => true,
-        _ => false,
-    }
+    matches!(c, Change::Write(..) | Change::TakeOut(_) | Change::Load(..))
 }
 
 // The boot-up where it is a load, with the ID that becomes active.
-pub fn booted(c: Change) -> Reply
+pub fn booted(c: Change) -> Option<Frame>
     requires { Suits c }
     ensures { frames_of result ≡ Step.booted c }
 {
     match c {
-        Change::Load(_, id) => {
-            let frame = boot_up(id);
-            Reply { send: true, frame }
-        }
-        _ => silent(),
+        Change::Load(_, id) => Some(boot_up(id)),
+        _ => None,
     }
 }
 
 // The store after it: a save puts records in, a load word takes them out, 17h puts the pending pair in.
-pub fn store_after(c: Change, s: State, store: &mut [u8])
-    requires { length store.old ≡ 64 }
+#[tactic(auto, unfolding(model::specs::Changes::stored))]
+pub fn store_after(c: Change, s: State, store: &mut [u8; 64])
     ensures { store.new ≡ stored c s store.old }
 {
     match c {
-        Change::Save(gs) => {
-            let k = s.settings;
-            save(gs, s.core.active.id, k, store);
-        }
+        Change::Save(gs) => save(gs, s.core.active.id, s.settings, store),
         Change::TakeOut(gs) => store::write::take_out(gs, store),
-        Change::SavePending => {
-            let pending = s.core.pending;
-            readdress(pending, store);
-        }
+        Change::SavePending => readdress(s.core.pending, store),
         _ => {}
     }
 }

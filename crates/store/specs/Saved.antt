@@ -5,9 +5,10 @@ use Rattle.model.specs.declared.Group.{Group}
 use Rattle.model.specs.declared.Group.TheVariants.{C, A}
 use Rattle.model.specs.Bytes.{part, byte_at}
 use Rattle.model.specs.Settings.{row, same_group, Now, stays, becomes}
-use Rattle.model.specs.Store.{size_of_record, field, is_good, Saved, read, saved_n, saved, or_else, default_for, group_of, factory_place, follows_id, build}
+use Rattle.model.specs.Store.{size_of_record, field, is_good, read, saved_n, saved, or_else, default_for, group_of, factory_place, follows_id}
 use Rattle.image.specs.declared.Sizes.{Sizes}
-use Rattle.image.specs.Sizes.{sizes_in, Most}
+use Rattle.image.specs.declared.Records.{Records}
+use Rattle.image.specs.Sizes.{sizes_in, Most, Within}
 
 -- the sizes of what is saved: none where the image is not good
 abbrev pub sizes_if : Bool → Sizes → Sizes
@@ -17,6 +18,14 @@ sizes_if false s = record { n = 0; c = 0; a = 0 }
 -- s are the sizes of what is saved in an image
 pub record Kept (image : List ℕ) (s : Sizes) : Type 0 where
   pub told : s ≡ sizes_if (is_good image) (sizes_in image)
+  pub most : Most s
+
+-- r are the records that are saved in an image, the parts of it that the sizes s say
+pub record SavedIn (image : List ℕ) (s : Sizes) (r : Records) : Type 0 where
+  pub n : r.n.now ≡ saved_n (read image)
+  pub c : r.c.now ≡ saved C (read image)
+  pub a : r.a.now ≡ saved A (read image)
+  pub within : Within image s r
   pub most : Most s
 
 -- a group at a load, by the sizes: of the store or, where it is empty there, of the factory block
@@ -39,7 +48,3 @@ for_id g id r p =
 -- the parameters of the COB-ID rule become their defaults; the others stay
 abbrev pub cobs_of : ℕ → Parameter → Now
 cobs_of id p = cond (follows_id p) (becomes (default_for id p)) stays
-
--- the image in which each record is this one where it is set, else the one that was saved
-abbrev pub anew : Bool → List ℕ → Bool → List ℕ → Bool → List ℕ → Saved → List ℕ
-anew setN n setC c setA a sv = build (cond setN n (saved_n sv)) (cond setC c (saved C sv)) (cond setA a (saved A sv))

@@ -1,39 +1,55 @@
 // The records of a good store. Any other content: nothing is saved.
-ghost use Rattle.std.specs.Prelude.{◌≡◌, ◌&&◌, ◌+◌, ◌≤◌, length};
+ghost use Rattle.std.specs.Prelude.{◌≡◌, ◌&&◌};
 ghost use Rattle.model.specs.declared.Group.TheVariants as Group;
-ghost use Rattle.model.specs.Bytes.{part};
 ghost use Rattle.model.specs.Store.{ok_n, ok};
-ghost use Rattle.store.specs.Saved.{Kept};
+ghost use Rattle.store.specs.Saved.{Kept, SavedIn};
 
-use image::{Sizes, is_own, sizes_in};
-use records::accept::{ok_a, ok_c, ok_n};
-use wire::bytes::part_of;
+use image::{Records, Sizes, is_own, sizes_in};
+use model::{Address, Application, Communication};
+use records::accept::Record;
 
-// Whether the records of these sizes in an image are accepted.
-fn accepted(image: &[u8], n: usize, c: usize, a: usize) -> bool
-    requires { (length image.now ≡ 64) × (n + c + a ≤ 56) }
-    ensures { result ≡ (ok_n (part 0 n image.now) && (ok Group.C (part n c image.now) && ok Group.A (part (n + c) a image.now))) }
+// Whether these records are accepted.
+fn accepted(r: Records) -> bool
+    ensures { result ≡ (ok_n r.entry.n.now && (ok Group.C r.entry.c.now && ok Group.A r.entry.a.now)) }
 {
-    let in_n = ok_n(part_of(image, 0, n));
-    let in_c = ok_c(part_of(image, n, c));
-    let in_a = ok_a(part_of(image, n + c, a));
-    in_n & (in_c & in_a)
+    Address::is_ok(r.n) & (Communication::is_ok(r.c) & Application::is_ok(r.a))
 }
 
 // The sizes of the records that are saved, none where the store is not good. They stand in the order N, C, A from byte 0 on.
 // A matching CRC alone says nothing: 64 zero bytes have one. The bytes are asked first: most bad stores are turned away by them.
-pub fn saved_sizes(store: &[u8]) -> Sizes
-    requires { length store.now ≡ 64 }
+pub fn saved_sizes(store: &[u8; 64]) -> Sizes
     ensures { Kept store.now result }
 {
     let s = sizes_in(store);
-    let n = s.n;
-    let c = s.c;
-    let a = s.a;
-    if is_own(store, n, c, a) {
-        if accepted(store, n, c, a) {
-            return s;
+    if is_own(store, s) && accepted(s.records(store)) {
+        return s;
+    }
+    Sizes::default()
+}
+
+// A store, with the sizes of the records that are saved in it.
+#[derive(Clone, Copy)]
+pub struct Contents<'a> {
+    pub store: &'a [u8; 64],
+    pub sizes: Sizes,
+    pub ghost kept: { Kept store.now sizes },
+}
+
+impl<'a> Contents<'a> {
+    // What is saved in a store.
+    pub fn read(store: &'a [u8; 64]) -> Contents<'a>
+        ensures { result.store.now ≡ store.now }
+    {
+        Contents {
+            store,
+            sizes: saved_sizes(store),
         }
     }
-    Sizes { n: 0, c: 0, a: 0 }
+
+    // The records that are saved.
+    pub fn records(self) -> Records<'a>
+        ensures { SavedIn self.entry.store.now self.entry.sizes result }
+    {
+        self.sizes.records(self.store)
+    }
 }

@@ -1,3 +1,3 @@
-pub mod Backwards
 pub mod Joined
+pub mod Numbers
 pub mod Sent

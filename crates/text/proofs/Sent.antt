@@ -1,27 +1,25 @@
 -- The loops over data bytes and frames, a turn each, and the frames of an output, which are those that were laid into it. Assumes nothing.
-use mathlib.Core.Path.{◌≡◌, refl, sym, ap, ◌∙◌}
-use mathlib.Core.List.{List, [], ◌∷◌, ◌++◌, append_assoc, append-nil}
-use mathlib.Core.Logic.{⊎_elim}
-use Prim.Native.Nat.{ℕ, zero, suc, ◌+◌, ◌*◌, ◌/◌, ◌%◌, ◌≤◌, ◌<◌}
-use native.Mathlib.Omega.{arith}
-use native.Mathlib.Nat.{eq-or-lt_of_le}
-use lib.ListN.{length, take, drop, get_or}
-use lib.Seq.{take_all, drop-drop}
+use Rattle.std.proofs.Common.{◌≡◌, ℕ, zero, suc, ◌+◌, ◌-◌, ◌*◌, ◌/◌, ◌%◌, ◌<◌, ◌≤◌, List, [], ◌∷◌, ◌++◌, length, take, drop, get_or, min, refl, sym, ap, ◌∙◌, add-one, arith, append_assoc, append-nil, length-drop, length-take-le, drop-drop, drop_at, lit<}
+use Rattle.std.proofs.lemmas.List.{take-append-drop, take-append-le, drop-append-le, get_or_append_left}
 use Rattle.model.specs.declared.Frame.{Frame}
 use Rattle.model.specs.Bytes.{as_number, part}
 use Rattle.model.specs.Frames.{frame_bytes, laid, overlay}
 use Rattle.model.specs.Program.{hex_byte, hex_bytes, frame_text, frames_texts, line_text}
 use Rattle.model.specs.Run.{Line, number_in, sent_in}
-use Rattle.text.specs.Written.{Written}
+use Rattle.text.specs.declared.Text.{Text}
+use Rattle.text.specs.Written.{Wrote}
 use Rattle.text.specs.Sent.{frame_in, frames_in, Shown, added}
 
 -- ---- Turns
 
 -- one byte more
-pub byte_turn : (s : List ℕ) (i : ℕ) → i < length s → hex_bytes (take i s) ++ hex_byte (get_or s i 0) ≡ hex_bytes (take (suc i) s)
-byte_turn [] i h = absurd (omega arith)
-byte_turn (x ∷ s) zero h = refl
-byte_turn (x ∷ s) (suc i) h = ap (λ (t : List ℕ). hex_byte x ++ t) (byte_turn s i (omega arith))
+pub byte_turn : (s : List ℕ) (i : ℕ) → i < length s → hex_bytes (take i s) ++ hex_byte (get_or s i 0) ≡ hex_bytes (take (i + 1) s)
+byte_turn s i h = more s i h ∙ ap (λ (j : ℕ). hex_bytes (take j s)) (sym (add-one i))
+  where
+    more : (s : List ℕ) (i : ℕ) → i < length s → hex_bytes (take i s) ++ hex_byte (get_or s i 0) ≡ hex_bytes (take (suc i) s)
+    more [] i h = absurd (omega arith)
+    more (x ∷ s) zero h = refl
+    more (x ∷ s) (suc i) h = ap (λ (t : List ℕ). hex_byte x ++ t) (more s i (omega arith))
 
 last_frame : (k : ℕ) (l : List ℕ) → frames_in (suc k) l ≡ frames_in k l ++ (frame_in (drop (12 * k) l) ∷ [])
 unfolding frames_in
@@ -35,17 +33,60 @@ last_text n [] f = append-nil (frame_text n f)
 last_text n (g ∷ fs) f =
     ap (λ (t : List ℕ). frame_text n g ++ t) (last_text n fs f) ∙ sym (append_assoc (frame_text n g) (frames_texts n fs) (frame_text n f))
 
--- one frame more
-pub frame_turn : (n k : ℕ) (l : List ℕ) → frames_texts n (frames_in k l) ++ frame_text n (frame_in (drop (12 * k) l)) ≡ frames_texts n (frames_in (suc k) l)
-frame_turn n k l = sym (ap (frames_texts n) (last_frame k l) ∙ last_text n (frames_in k l) (frame_in (drop (12 * k) l)))
+-- a frame is in its 12 bytes, whatever follows them
+frame_in_front : (x rest : List ℕ) → length x ≡ 12 → frame_in (x ++ rest) ≡ frame_in x
+unfolding frame_in part
+frame_in_front x rest h =
+    let at : (i : ℕ) → i < 12 → get_or (x ++ rest) i 0 ≡ get_or x i 0 = λ i less. get_or_append_left x rest 0 i (omega arith) in
+    rw (
+      take-append-le 2 x rest (omega arith),
+      at 3 (lit< tt),
+      at 4 (lit< tt),
+      at 5 (lit< tt),
+      at 6 (lit< tt),
+      at 7 (lit< tt),
+      at 8 (lit< tt),
+      at 9 (lit< tt),
+      at 10 (lit< tt),
+      at 11 (lit< tt),
+    ) refl
 
--- ---- How many of eight bytes a length counts
+-- what is left of the first frames after k of them
+abbrev pub left : ℕ → ℕ → List ℕ → List ℕ
+left k count l = drop (12 * k) (take (12 * count) l)
 
-pub counted_same : (r len : ℕ) (l : List ℕ) → length l ≡ 8 → r ≤ len → (r < len → r ≡ 8) → take r l ≡ take len l
-counted_same r len l e h k =
-    ⊎_elim (λ same. ap (λ (j : ℕ). take j l) same)
-    (λ less. let eight : r ≡ 8 = k less in take_all r l (omega arith) ∙ sym (take_all len l (omega arith)))
-    (eq-or-lt_of_le h)
+-- a turn takes the chunk x of n bytes from its front
+module _ (k count : ℕ) (l d x rest : List ℕ) (n : ℕ) (fits : 12 * count ≤ length l) (start : left k count l ≡ d) (twelve : n ≡ 12)
+    (cut : (d ≡ x ++ rest) × (length x ≡ min n (length d)) × (0 < length d)) where
+  long : length d ≡ 12 * count - 12 * k
+  long = rw (← start) (length-drop (12 * k) (take (12 * count) l) ∙ rw (length-take-le (12 * count) l fits) refl)
+
+  pub more_left : k < count
+  more_left = omega (arith, cut.2, long)
+
+  whole : length x ≡ 12
+  whole = omega (arith, cut.1, twelve, more_left, long)
+
+  pub left_turn : left (k + 1) count l ≡ rest
+  left_turn =
+      let e : 12 * k + 12 ≡ 12 * (k + 1) = omega arith in
+      ap (λ (j : ℕ). drop j (take (12 * count) l)) (sym e)
+      ∙ sym (drop-drop 12 (12 * k) (take (12 * count) l))
+      ∙ ap (drop 12) (start ∙ cut.0)
+      ∙ drop_at x rest 12 whole
+
+  pub frame_turn : (n : ℕ) (f : Frame) → f ≡ frame_in x → frames_texts n (frames_in k l) ++ frame_text n f ≡ frames_texts n (frames_in (k + 1) l)
+  frame_turn n f same =
+      let m = 12 * count in
+      let e : drop (12 * k) l ≡ x ++ (rest ++ drop m l) =
+      ap (drop (12 * k)) (sym (take-append-drop m l))
+      ∙ drop-append-le (12 * k) (take m l) (drop m l) (omega (arith, more_left, length-take-le m l fits))
+      ∙ ap (λ (t : List ℕ). t ++ drop m l) (start ∙ cut.0)
+      ∙ append_assoc x rest (drop m l) in
+      let next : frame_in (drop (12 * k) l) ≡ frame_in x = ap frame_in e ∙ frame_in_front x (rest ++ drop m l) whole in
+      ap (λ (g : Frame). frames_texts n (frames_in k l) ++ frame_text n g) (same ∙ sym next)
+      ∙ sym (last_text n (frames_in k l) (frame_in (drop (12 * k) l)))
+      ∙ ap (frames_texts n) (sym (last_frame k l) ∙ ap (λ (j : ℕ). frames_in j l) (sym (add-one k)))
 
 -- ---- Frames read back
 
@@ -81,7 +122,7 @@ unfolding overlay
 frames_back fs xs h = laid_back fs (drop (12 * length fs) xs) h
 
 -- so a call's line of the log is what it adds
-pub line_added : (l : Line) (n : ℕ) (zs : List ℕ) {k at r number count : ℕ} {xs ys out : List ℕ} → number_in l ≡ number → count ≡ length (sent_in l)
-    → out ≡ overlay (sent_in l) zs → Shown (sent_in l) → Written k (added n number (frames_in count out)) at xs ys r → Written k (line_text n l) at xs ys r
+pub line_added : (l : Line) (n : ℕ) (zs : List ℕ) {k number count : ℕ} {t u : Text} {out : List ℕ} → number_in l ≡ number → count ≡ length (sent_in l)
+    → out ≡ overlay (sent_in l) zs → Shown (sent_in l) → Wrote k (added n number (frames_in count out)) t u → Wrote k (line_text n l) t u
 unfolding added line_text
 line_added l n zs a b c h w = rw (← a, b, c, frames_back (sent_in l) zs h) at w

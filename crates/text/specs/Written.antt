@@ -1,6 +1,7 @@
 -- What a writer of text promises. Assumes nothing.
-use Rattle.std.specs.Prelude.{◌≡◌, List, ℕ, ◌+◌, ◌≤◌, length, drop}
+use Rattle.std.specs.Prelude.{◌≡◌, List, ℕ, ◌+◌, ◌≤◌, length}
 use Rattle.wire.specs.Put.{put}
+use Rattle.text.specs.declared.Text.{Text}
 
 -- ys is xs with the text from place `at` on, and r is the place after it; the text has at most k bytes, which the next writer's room follows from
 pub record Written (k : ℕ) (text : List ℕ) (at : ℕ) (xs ys : List ℕ) (r : ℕ) : Type 0 where
@@ -8,8 +9,9 @@ pub record Written (k : ℕ) (text : List ℕ) (at : ℕ) (xs ys : List ℕ) (r 
   pub bytes : ys ≡ put at text xs
   pub short : length text ≤ k
 
--- the text stands at the end of twenty bytes, from place r on
-pub record Digits (text ys : List ℕ) (r : ℕ) : Type 0 where
-  pub begins : r ≤ 19
-  pub long : length ys ≡ 20
-  pub bytes : drop r ys ≡ text
+-- u is t with this text behind the text so far, in the same buffer
+pub record Wrote (k : ℕ) (text : List ℕ) (t u : Text) : Type 0 where
+  pub same : u.bytes.ghost_name ≡ t.bytes.ghost_name
+  pub long : length u.bytes.now ≡ length t.bytes.now
+  pub fits : u.len ≤ length u.bytes.now
+  pub written : Written k text t.len t.bytes.now u.bytes.now u.len

@@ -1,173 +1,179 @@
-// The text of the event program, line by line, into a buffer that the caller lends. Each function writes from a place on and answers the place after.
+// The text of the event program, line by line, in a buffer that the caller lends. Each method writes behind the text so far.
 #![tactic(auto)]
 
-ghost use Rattle.std.specs.Prelude.{◌≡◌, [], ◌∷◌, ◌++◌, ◌+◌, ◌*◌, ◌<◌, ◌≤◌, length, drop};
-ghost use Rattle.model.specs.Program as Text;
-ghost use Rattle.text.specs.Written.{Written, Digits};
+ghost use Rattle.std.specs.Prelude.{[], ◌∷◌, ◌++◌, ◌≡◌, ◌+◌, ◌*◌, ◌<◌, ◌≤◌, length};
+ghost use Rattle.model.specs.Program;
+ghost use Rattle.text.specs.Written.{Wrote};
 ghost use Rattle.text.specs.Sent.{frame_in, frames_in, added};
 
+use itoa::Buffer;
 use model::Frame;
 use wire::bytes::{byte, copy, get16};
 
-// ---- Bytes
+// The bytes of a frame in an output.
+const FRAME: usize = 12;
 
-// One byte.
-fn put(out: &mut [u8], at: usize, b: u8) -> usize
-    requires { at < length out.old }
-    ensures { Written 1 (b ∷ []) at out.old out.new result }
-{
-    out[at] = b;
-    at + 1
+// The first `len` bytes of a lent buffer are the text so far.
+#[derive(Drop)]
+pub struct Text<'a> {
+    pub bytes: &'a mut [u8],
+    pub len: usize,
 }
 
-// Some bytes.
-fn put_all(out: &mut [u8], at: usize, s: &[u8]) -> usize
-    requires { at + length s.now ≤ length out.old }
-    ensures { Written (length s.now) s.now at out.old out.new result }
-{
-    copy(out, at, s);
-    at + s.len()
-}
+impl<'a> Text<'a> {
+    // ---- Bytes and numbers
 
-// ---- Numbers
-
-// The decimal digits of n at the end of twenty bytes, and where they begin.
-fn digits(n: u64, text: &mut [u8; 20]) -> usize
-    requires { length text.old ≡ 20 }
-    ensures { Digits (Text.decimal n) text.new result }
-{
-    let mut i = 19;
-    let mut m = n;
-    text[19] = 48 + (m % 10) as u8;
-    while 10 <= m {
-        m = m / 10;
-        i -= 1;
-        text[i] = 48 + (m % 10) as u8;
+    // One byte.
+    fn push(&mut self, b: u8)
+        requires { self.old.len < length self.old.bytes.now }
+        ensures { Wrote 1 (b ∷ []) self.old self.new }
+    {
+        self.bytes[self.len] = b;
+        self.len += 1;
     }
-    i
-}
 
-// A number in decimal.
-fn decimal(out: &mut [u8], at: usize, n: u64) -> usize
-    requires { at + 20 ≤ length out.old }
-    ensures { Written 20 (Text.decimal n) at out.old out.new result }
-{
-    let mut text = [0u8; 20];
-    let from = digits(n, &mut text);
-    put_all(out, at, &text[from..])
-}
+    // Some bytes.
+    fn push_all(&mut self, s: &[u8])
+        requires { self.old.len + length s.now ≤ length self.old.bytes.now }
+        ensures { Wrote (length s.now) s.now self.old self.new }
+    {
+        copy(self.bytes, self.len, s);
+        self.len += s.len();
+    }
 
-// Two numbers with a word between them.
-fn numbers(out: &mut [u8], at: usize, first: u64, word: &[u8], second: u64) -> usize
-    requires { at + length word.now + 40 ≤ length out.old }
-    ensures { Written (length word.now + 40) (Text.decimal first ++ word.now ++ Text.decimal second) at out.old out.new result }
-{
-    let a = decimal(out, at, first);
-    let b = put_all(out, a, word);
-    decimal(out, b, second)
+    // A number in decimal.
+    fn decimal(&mut self, n: u64)
+        requires { self.old.len + 20 ≤ length self.old.bytes.now }
+        ensures { Wrote 20 (Program.decimal n) self.old self.new }
+    {
+        let mut digits = Buffer::new();
+        self.push_all(digits.format(n).as_bytes());
+    }
+
+    // Two numbers with a word between them.
+    fn numbers(&mut self, first: u64, word: &[u8], second: u64)
+        requires { self.old.len + length word.now + 40 ≤ length self.old.bytes.now }
+        ensures { Wrote (length word.now + 40) (Program.decimal first ++ word.now ++ Program.decimal second) self.old self.new }
+    {
+        self.decimal(first);
+        self.push_all(word);
+        self.decimal(second);
+    }
+
+    // A byte as two hexadecimal digits.
+    fn hex(&mut self, b: u8)
+        requires { self.old.len + 2 ≤ length self.old.bytes.now }
+        ensures { Wrote 2 (Program.hex_byte b) self.old self.new }
+    {
+        self.push(hex_digit(b / 16));
+        self.push(hex_digit(b % 16));
+    }
+
+    // Some bytes so.
+    fn hexes(&mut self, s: &[u8])
+        requires { self.old.len + 2 * length s.now ≤ length self.old.bytes.now }
+        ensures { Wrote (2 * length s.now) (Program.hex_bytes s.now) self.old self.new }
+    {
+        for b in s {
+            self.hex(*b);
+        }
+    }
+
+    // ---- Lines. Not by `write!`: it says what it wrote only where it answers Ok, and these methods cannot fail.
+
+    // A space and a CAN-ID in three digits.
+    fn id_part(&mut self, id: u16)
+        requires { (self.old.len + 4 ≤ length self.old.bytes.now) × (id < 4096) }
+        ensures { Wrote 4 (Program.space ∷ Program.id_text id) self.old self.new }
+    {
+        self.push(b' ');
+        self.push(hex_digit((id / 256) as u8));
+        self.hex((id % 256) as u8);
+    }
+
+    // A space and the data.
+    fn data_part(&mut self, d: &[u8])
+        requires { (self.old.len + 17 ≤ length self.old.bytes.now) × (length d.now ≤ 8) }
+        ensures { Wrote 17 (Program.space ∷ Program.hex_bytes d.now) self.old self.new }
+    {
+        self.push(b' ');
+        self.hexes(d);
+    }
+
+    // A frame's line: the event's number, CAN-ID, data.
+    pub fn frame_line(&mut self, n: u64, frame: Frame)
+        requires { (self.old.len + 42 ≤ length self.old.bytes.now) × (frame.id < 4096) }
+        ensures { Wrote 42 (Program.frame_text n frame) self.old self.new }
+    {
+        let data = [
+            frame.d0, frame.d1, frame.d2, frame.d3, frame.d4, frame.d5, frame.d6, frame.d7,
+        ];
+        let len = usize::from(frame.len).min(8);
+        self.decimal(n);
+        self.id_part(frame.id);
+        self.data_part(&data[..len]);
+        self.push(b'\n');
+    }
+
+    // A refused record's line: the event's number and the refusal's.
+    pub fn refusal_line(&mut self, n: u64, number: u8)
+        requires { self.old.len + 50 ≤ length self.old.bytes.now }
+        ensures { Wrote 50 (Program.refusal_text n number) self.old self.new }
+    {
+        self.numbers(n, b" refused ", u64::from(number));
+        self.push(b'\n');
+    }
+
+    // The last line: the records read and the frames written.
+    pub fn end_line(&mut self, records: u64, frames: u64)
+        requires { self.old.len + 60 ≤ length self.old.bytes.now }
+        ensures { Wrote 60 (Program.end_line records frames) self.old self.new }
+    {
+        self.push_all(b"end ");
+        self.numbers(records, b" events ", frames);
+        self.push_all(b" frames\n");
+    }
+
+    // ---- What a call adds
+
+    // The lines of the first frames of an output.
+    fn frame_lines(&mut self, n: u64, frames: &[u8], count: usize)
+        requires { (self.old.len + 42 * count ≤ length self.old.bytes.now) × (12 * count ≤ length frames.now) }
+        ensures { Wrote (42 * count) (Program.frames_texts n (frames_in count frames.now)) self.old self.new }
+    {
+        for frame in frames[..FRAME * count].chunks(FRAME) {
+            self.frame_line(n, frame_in(frame));
+        }
+    }
+
+    // What call number n adds: of a refused one its line, else a line for each frame of the output. `number` and `count` stand in the answer as C has them.
+    #[tactic(auto, unfolding(crate::specs::Sent::added))]
+    pub fn lines(&mut self, n: u64, number: u8, count: u8, frames: &[u8])
+        requires room { self.old.len + 168 ≤ length self.old.bytes.now }
+        requires few { count ≤ 4 }
+        requires whole { 48 ≤ length frames.now }
+        ensures { Wrote 168 (added n number (frames_in count frames.now)) self.old self.new }
+    {
+        if number != 0 {
+            self.refusal_line(n, number);
+        } else {
+            self.frame_lines(n, frames, usize::from(count));
+        }
+    }
 }
 
 // A hexadecimal digit, in upper case.
+#[tactic(auto, unfolding(model::specs::Program::hex_digit))]
 fn hex_digit(d: u8) -> u8
     requires { d < 16 }
-    ensures { result ≡ Text.hex_digit d }
+    ensures { result ≡ Program.hex_digit d }
 {
-    if d < 10 { 48 + d } else { 55 + d }
+    if d < 10 { b'0' + d } else { b'A' + (d - 10) }
 }
-
-// A byte as two of them.
-fn hex(out: &mut [u8], at: usize, b: u8) -> usize
-    requires { at + 2 ≤ length out.old }
-    ensures { Written 2 (Text.hex_byte b) at out.old out.new result }
-{
-    let high = hex_digit(b / 16);
-    let low = hex_digit(b % 16);
-    let next = put(out, at, high);
-    put(out, next, low)
-}
-
-// Some bytes so.
-fn hexes(out: &mut [u8], at: usize, s: &[u8]) -> usize
-    requires { at + 2 * length s.now ≤ length out.old }
-    ensures { Written (2 * length s.now) (Text.hex_bytes s.now) at out.old out.new result }
-{
-    let mut next = at;
-    let mut i = 0;
-    while i < s.len() {
-        next = hex(out, next, s[i]);
-        i += 1;
-    }
-    next
-}
-
-// ---- Lines
-
-// A space and a CAN-ID in three digits.
-fn id_part(out: &mut [u8], at: usize, id: u16) -> usize
-    requires { (at + 4 ≤ length out.old) × (id < 4096) }
-    ensures { Written 4 (Text.space ∷ Text.id_text id) at out.old out.new result }
-{
-    let first = hex_digit((id / 256) as u8);
-    let a = put(out, at, b' ');
-    let b = put(out, a, first);
-    hex(out, b, (id % 256) as u8)
-}
-
-// A space and the data.
-fn data_part(out: &mut [u8], at: usize, d: &[u8]) -> usize
-    requires { (at + 17 ≤ length out.old) × (length d.now ≤ 8) }
-    ensures { Written 17 (Text.space ∷ Text.hex_bytes d.now) at out.old out.new result }
-{
-    let next = put(out, at, b' ');
-    hexes(out, next, d)
-}
-
-// How many of eight data bytes a length counts.
-fn counted(len: u8) -> usize
-    ensures { (result ≤ 8) × (result ≤ len) × (result < len → result ≡ 8) }
-{
-    if len < 8 { len as usize } else { 8 }
-}
-
-// A frame's line: the event's number, CAN-ID, data.
-pub fn frame_line(out: &mut [u8], at: usize, n: u64, frame: Frame) -> usize
-    requires { (at + 42 ≤ length out.old) × (frame.id < 4096) }
-    ensures { Written 42 (Text.frame_text n frame) at out.old out.new result }
-{
-    let d = [
-        frame.d0, frame.d1, frame.d2, frame.d3, frame.d4, frame.d5, frame.d6, frame.d7,
-    ];
-    let len = counted(frame.len);
-    let a = decimal(out, at, n);
-    let b = id_part(out, a, frame.id);
-    let c = data_part(out, b, &d[..len]);
-    put(out, c, b'\n')
-}
-
-// A refused record's line: the event's number and the refusal's.
-pub fn refusal_line(out: &mut [u8], at: usize, n: u64, number: u8) -> usize
-    requires { at + 50 ≤ length out.old }
-    ensures { Written 50 (Text.refusal_text n number) at out.old out.new result }
-{
-    let next = numbers(out, at, n, b" refused ", number as u64);
-    put(out, next, b'\n')
-}
-
-// The last line: the records read and the frames written.
-pub fn end_line(out: &mut [u8], at: usize, records: u64, frames: u64) -> usize
-    requires { at + 60 ≤ length out.old }
-    ensures { Written 60 (Text.end_line records frames) at out.old out.new result }
-{
-    let a = put_all(out, at, b"end ");
-    let b = numbers(out, a, records, b" events ", frames);
-    let c = put_all(out, b, b" frames");
-    put(out, c, b'\n')
-}
-
-// ---- What a call adds
 
 // The frame in the first 12 bytes, with the three digits of its CAN-ID that a line shows.
-fn frame_in(s: &[u8]) -> Frame
+#[tactic(auto, unfolding(crate::specs::Sent::frame_in))]
+pub fn frame_in(s: &[u8]) -> Frame
     ensures { (result ≡ frame_in s.now) × (result.id < 4096) }
 {
     Frame {
@@ -182,39 +188,4 @@ fn frame_in(s: &[u8]) -> Frame
         d6: byte(s, 10),
         d7: byte(s, 11),
     }
-}
-
-// The line of frame number k, from 0, of an output.
-pub fn frame_line_at(out: &mut [u8], at: usize, n: u64, frames: &[u8], k: usize) -> usize
-    requires { (at + 42 ≤ length out.old) × (12 * k ≤ length frames.now) }
-    ensures { Written 42 (Text.frame_text n (frame_in (drop (12 * k) frames.now))) at out.old out.new result }
-{
-    let from = 12 * k;
-    let frame = frame_in(&frames[from..]);
-    frame_line(out, at, n, frame)
-}
-
-// The lines of the first frames of an output.
-fn frame_lines(out: &mut [u8], at: usize, n: u64, frames: &[u8], count: usize) -> usize
-    requires { (at + 42 * count ≤ length out.old) × (12 * count ≤ length frames.now) }
-    ensures { Written (42 * count) (Text.frames_texts n (frames_in count frames.now)) at out.old out.new result }
-{
-    let mut next = at;
-    let mut k = 0;
-    while k < count {
-        next = frame_line_at(out, next, n, frames, k);
-        k += 1;
-    }
-    next
-}
-
-// What call number n adds: of a refused one its line, else a line for each frame of the output.
-pub fn lines(out: &mut [u8], at: usize, n: u64, number: u8, count: u8, frames: &[u8]) -> usize
-    requires { (at + 168 ≤ length out.old) × (count ≤ 4) × (48 ≤ length frames.now) }
-    ensures { Written 168 (added n number (frames_in count frames.now)) at out.old out.new result }
-{
-    if number != 0 {
-        return refusal_line(out, at, n, number);
-    }
-    frame_lines(out, at, n, frames, count as usize)
 }

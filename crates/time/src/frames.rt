@@ -7,7 +7,7 @@ ghost use Rattle.model.specs.Time as Time;
 ghost use Rattle.model.specs.Time.{differ};
 ghost use Rattle.time.specs.Told.{reading_of};
 
-use model::{Frame, Integer, Reply, State};
+use model::{Frame, Integer, STOPPED, State};
 use reading::{bits_of, integer_pv, to_pv};
 
 // ---- The present reading
@@ -19,42 +19,28 @@ pub struct Reading {
     pub integer: Integer,
 }
 
-// The reading of the present FV and parameters.
+// The reading of the present FV and parameters. That the digits and the Node-ID fit stays a clause, here and below: the state holds a byte for
+// each, as C has it, and the definitions take it so.
 pub fn reading_of(s: State) -> Reading
     requires { s.settings.application.digits ≤ 4 }
     ensures { result ≡ reading_of s }
 {
-    let scaling = s.settings.application.scaling;
-    let fv = s.core.fv;
-    let pv = to_pv(scaling, fv);
-    let integer = integer_pv(pv, s.settings.application.digits);
+    let pv = to_pv(s.settings.application.scaling, s.core.fv);
     Reading {
         bits: bits_of(pv.0),
-        integer,
+        integer: integer_pv(pv, s.settings.application.digits),
     }
 }
 
 // ---- The frames, by the active ID or the COB-ID and the number that they carry
 
 // A frame of four bytes, low first.
+#[tactic(auto, using(model::proofs::Numbers::low_of_32))]
 fn four_bytes(id: u16, x: u32) -> Frame
     ensures { result ≡ frame id (low_bytes 4 x) }
 {
-    let x1 = x / 256;
-    let x2 = x1 / 256;
-    let x3 = x2 / 256;
-    Frame {
-        id,
-        len: 4,
-        d0: (x % 256) as u8,
-        d1: (x1 % 256) as u8,
-        d2: (x2 % 256) as u8,
-        d3: (x3 % 256) as u8,
-        d4: 0,
-        d5: 0,
-        d6: 0,
-        d7: 0,
-    }
+    let [b0, b1, b2, b3] = x.to_le_bytes();
+    Frame::new(id, 4, [b0, b1, b2, b3, 0, 0, 0, 0])
 }
 
 // Heartbeat: the NMT state's number.
@@ -62,18 +48,7 @@ pub fn heartbeat_frame(id: u8, nmt: u8) -> Frame
     requires { id ≤ 127 }
     ensures { result ≡ frame (heartbeats + id) (nmt ∷ []) }
 {
-    Frame {
-        id: 0x700 + id as u16,
-        len: 1,
-        d0: nmt,
-        d1: 0,
-        d2: 0,
-        d3: 0,
-        d4: 0,
-        d5: 0,
-        d6: 0,
-        d7: 0,
-    }
+    Frame::new(0x700 + u16::from(id), 1, [nmt, 0, 0, 0, 0, 0, 0, 0])
 }
 
 // TPDO: the integer PV.
@@ -81,39 +56,16 @@ pub fn tpdo_frame(id: u8, integer: u32) -> Frame
     requires { id ≤ 127 }
     ensures { result ≡ frame (tpdos + id) (low_bytes 4 integer) }
 {
-    four_bytes(0x180 + id as u16, integer)
-}
-
-// No frame.
-pub fn silent() -> Reply
-    ensures { frames_of result ≡ [] }
-{
-    let frame = Frame {
-        id: 0,
-        len: 0,
-        d0: 0,
-        d1: 0,
-        d2: 0,
-        d3: 0,
-        d4: 0,
-        d5: 0,
-        d6: 0,
-        d7: 0,
-    };
-    Reply { send: false, frame }
+    four_bytes(0x180 + u16::from(id), integer)
 }
 
 // A TPDO where it is sent. The reading is made only then.
-pub fn tpdo_reply(send: bool, s: State) -> Reply
+#[tactic(auto, unfolding(model::specs::Time::tpdo_frame))]
+pub fn tpdo_reply(send: bool, s: State) -> Option<Frame>
     requires { (s.settings.application.digits ≤ 4) × (s.core.active.id ≤ 127) }
     ensures { frames_of result ≡ when send (Time.tpdo_frame s) }
 {
-    if send {
-        let reading = reading_of(s);
-        let frame = tpdo_frame(s.core.active.id, reading.integer.bits);
-        return Reply { send, frame };
-    }
-    silent()
+    send.then(|| tpdo_frame(s.core.active.id, reading_of(s).integer.bits))
 }
 
 // SRDO: the bits of PV on the first COB-ID.
@@ -149,28 +101,22 @@ fn emcy_code(capped: bool) -> u16
 }
 
 // EMCY: the code, low byte first, and the error register.
+#[tactic(auto, using(model::proofs::Numbers::low_of_16))]
 pub fn emcy_frame(id: u8, capped: bool) -> Frame
     requires { id ≤ 127 }
     ensures { result ≡ full (emcys + id) (low_bytes 2 (cond capped 0xff01 0) ++ (cond capped 0x81 0 ∷ [])) }
 {
-    let code = emcy_code(capped);
-    Frame {
-        id: 0x80 + id as u16,
-        len: 8,
-        d0: (code % 256) as u8,
-        d1: (code / 256 % 256) as u8,
-        d2: error_register(capped),
-        d3: 0,
-        d4: 0,
-        d5: 0,
-        d6: 0,
-        d7: 0,
-    }
+    let [low, high] = emcy_code(capped).to_le_bytes();
+    Frame::new(
+        0x80 + u16::from(id),
+        8,
+        [low, high, error_register(capped), 0, 0, 0, 0, 0],
+    )
 }
 
 // It is due when capped is not what was reported, unless Stopped.
 pub fn emcy_due(nmt: u8, capped: bool, reported: bool) -> bool
     ensures { result ≡ not (eqb nmt stopped) && differ capped reported }
 {
-    (nmt != 4) & (capped ^ reported)
+    (nmt != STOPPED) & (capped ^ reported)
 }

@@ -3,49 +3,22 @@ ghost use Rattle.std.specs.Prelude.{◌≡◌, ◌&&◌, ◌+◌, leb};
 ghost use Rattle.model.specs.Parts.{is_operational};
 ghost use Rattle.model.specs.Time as Time;
 
-use model::{Core, Fv, Sending, State, Transmission};
+use model::{Core, Fv, OPERATIONAL, Sending, State, Transmission};
 
 // ---- Transmission types
-
-// What a type (1800h:2) sends at.
-pub fn transmission(kind: u8) -> Transmission
-    ensures { result ≡ Time.transmission kind }
-{
-    if kind == 0 {
-        return Transmission::OnSample;
-    }
-    if kind <= 240 {
-        return Transmission::OnSyncs;
-    }
-    if kind < 252 {
-        return Transmission::Never;
-    }
-    if kind <= 253 {
-        return Transmission::OnRemote;
-    }
-    Transmission::Timed
-}
 
 // By the event timer.
 pub fn is_timed(at: Transmission) -> bool
     ensures { result ≡ Time.is_timed at }
 {
-    if let Transmission::Timed = at {
-        true
-    } else {
-        false
-    }
+    at == Transmission::Timed
 }
 
 // For a remote frame.
 fn is_on_remote(at: Transmission) -> bool
     ensures { result ≡ Time.is_on_remote at }
 {
-    if let Transmission::OnRemote = at {
-        true
-    } else {
-        false
-    }
+    at == Transmission::OnRemote
 }
 
 // ---- Samples
@@ -66,7 +39,7 @@ pub fn sampled(fv: Fv, c: Core) -> Core
 fn is_nth(n: u8, syncs: u8) -> bool
     ensures { result ≡ leb n (syncs + 1) }
 {
-    n as u16 <= syncs as u16 + 1
+    u16::from(n) <= u16::from(syncs) + 1
 }
 
 // Whether a type sends at a SYNC.
@@ -89,18 +62,14 @@ fn counted(at: Transmission, n: u8, d: Sending) -> Sending
             syncs: d.syncs,
             sample: false,
         },
-        Transmission::OnSyncs => {
-            if is_nth(n, d.syncs) {
-                return Sending {
-                    syncs: 0,
-                    sample: false,
-                };
-            }
-            Sending {
-                syncs: d.syncs + 1,
-                sample: d.sample,
-            }
-        }
+        Transmission::OnSyncs if is_nth(n, d.syncs) => Sending {
+            syncs: 0,
+            sample: false,
+        },
+        Transmission::OnSyncs => Sending {
+            syncs: d.syncs + 1,
+            sample: d.sample,
+        },
         _ => d,
     }
 }
@@ -111,21 +80,22 @@ pub fn sync_sends(s: State) -> bool
 {
     let kind = s.settings.communication.tpdo.kind;
     let d = s.core.tpdo;
-    let sent = sends(transmission(kind), kind, d);
-    (s.core.nmt == 5) & sent
+    let sent = sends(Transmission::from(kind), kind, d);
+    (s.core.nmt == OPERATIONAL) & sent
 }
 
 // The core after a SYNC, which is heard in Operational alone.
+#[tactic(auto, unfolding(model::specs::Time::synced))]
 pub fn synced(s: State) -> Core
     ensures { result ≡ Time.synced s }
 {
     let mut c = s.core;
-    if c.nmt != 5 {
+    if c.nmt != OPERATIONAL {
         return c;
     }
     let kind = s.settings.communication.tpdo.kind;
     let d = c.tpdo;
-    let after = counted(transmission(kind), kind, d);
+    let after = counted(Transmission::from(kind), kind, d);
     c.tpdo = after;
     c
 }
@@ -133,14 +103,16 @@ pub fn synced(s: State) -> Core
 // ---- Remote frames
 
 // Whether a remote frame on the TPDO of the node `to` is answered.
+#[tactic(auto, unfolding(model::specs::Time::answers_remote))]
 pub fn answers_remote(to: u8, s: State) -> bool
     ensures { result ≡ Time.answers_remote to s }
 {
-    let asked = is_on_remote(transmission(s.settings.communication.tpdo.kind));
-    (to == s.core.active.id) & ((s.core.nmt == 5) & asked)
+    let asked = is_on_remote(Transmission::from(s.settings.communication.tpdo.kind));
+    (to == s.core.active.id) & ((s.core.nmt == OPERATIONAL) & asked)
 }
 
 // The core after it: the answer uses up the sample, and leaves the event timer alone.
+#[tactic(auto, unfolding(model::specs::Time::remote_answered))]
 pub fn remote_answered(to: u8, s: State) -> Core
     ensures { result ≡ Time.remote_answered to s }
 {

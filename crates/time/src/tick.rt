@@ -1,10 +1,10 @@
 // A tick: the clock moves first, then the timers look at it.
-ghost use Rattle.std.specs.Prelude.{◌≡◌};
+ghost use Rattle.std.specs.Prelude.{◌≡◌, ◌||◌};
 ghost use Rattle.model.specs.Time as Time;
 ghost use Rattle.time.specs.Told.{due_of};
 
-use super::sync::{is_timed, transmission};
-use model::{Core, State};
+use super::sync::is_timed;
+use model::{Core, OPERATIONAL, State, Transmission};
 use wire::clock::{fires, fires_unless_off, next};
 
 // What is due at a tick. The sender goes by it too.
@@ -26,6 +26,7 @@ pub fn clocked(s: State) -> State
 }
 
 // The heartbeat is due in every NMT state.
+#[tactic(auto, unfolding(model::specs::Time::heartbeat_due))]
 fn heartbeat_due(s: State) -> bool
     ensures { result ≡ Time.heartbeat_due s }
 {
@@ -37,19 +38,21 @@ fn heartbeat_due(s: State) -> bool
 }
 
 // The TPDO is due by its event timer in Operational.
+#[tactic(auto, unfolding(model::specs::Time::tpdo_due))]
 fn tpdo_due(s: State) -> bool
     ensures { result ≡ Time.tpdo_due s }
 {
-    let timed = is_timed(transmission(s.settings.communication.tpdo.kind));
+    let timed = is_timed(Transmission::from(s.settings.communication.tpdo.kind));
     let fired = fires_unless_off(
         s.core.timers.clock,
         s.core.timers.tpdo,
         s.settings.communication.tpdo.period,
     );
-    (s.core.nmt == 5) & (timed & fired)
+    (s.core.nmt == OPERATIONAL) & (timed & fired)
 }
 
 // The SRDO is due in Operational, where its direction is to send.
+#[tactic(auto, unfolding(model::specs::Time::srdo_due))]
 fn srdo_due(s: State) -> bool
     ensures { result ≡ Time.srdo_due s }
 {
@@ -58,21 +61,7 @@ fn srdo_due(s: State) -> bool
         s.core.timers.srdo,
         s.settings.communication.srdo.refresh,
     );
-    (s.core.nmt == 5) & ((s.settings.communication.srdo.direction == 1) & fired)
-}
-
-// What is due in a state whose clock has moved.
-pub fn due_of(s: State) -> Due
-    ensures { result ≡ due_of s }
-{
-    let heartbeat = heartbeat_due(s);
-    let tpdo = tpdo_due(s);
-    let srdo = srdo_due(s);
-    Due {
-        heartbeat,
-        tpdo,
-        srdo,
-    }
+    (s.core.nmt == OPERATIONAL) & ((s.settings.communication.srdo.direction == 1) & fired)
 }
 
 // A timer's start: the clock where it fires.
@@ -82,29 +71,44 @@ fn start_after(fired: bool, clock: u16, start: u16) -> u16
     if fired { clock } else { start }
 }
 
-// What was due starts anew, and a TPDO uses up the sample.
-pub fn fired(due: Due, c: Core) -> Core
-    ensures { result ≡ Time.fired due.heartbeat due.tpdo due.srdo c }
-{
-    let now = c.timers.clock;
-    let heartbeat = start_after(due.heartbeat, now, c.timers.heartbeat);
-    let tpdo = start_after(due.tpdo, now, c.timers.tpdo);
-    let srdo = start_after(due.srdo, now, c.timers.srdo);
-    let sample = !due.tpdo & c.tpdo.sample;
-    let mut t = c;
-    t.timers.heartbeat = heartbeat;
-    t.timers.tpdo = tpdo;
-    t.timers.srdo = srdo;
-    t.tpdo.sample = sample;
-    t
+impl Due {
+    // What is due in a state whose clock has moved.
+    pub fn of(s: State) -> Due
+        ensures { result ≡ due_of s }
+    {
+        Due {
+            heartbeat: heartbeat_due(s),
+            tpdo: tpdo_due(s),
+            srdo: srdo_due(s),
+        }
+    }
+
+    // Whether anything is.
+    pub fn any(self) -> bool
+        ensures { result ≡ (self.heartbeat || (self.tpdo || self.srdo)) }
+    {
+        self.heartbeat | (self.tpdo | self.srdo)
+    }
+
+    // What was due starts anew, and a TPDO uses up the sample.
+    pub fn fired(self, c: Core) -> Core
+        ensures { result ≡ Time.fired self.heartbeat self.tpdo self.srdo c }
+    {
+        let now = c.timers.clock;
+        let mut t = c;
+        t.timers.heartbeat = start_after(self.heartbeat, now, c.timers.heartbeat);
+        t.timers.tpdo = start_after(self.tpdo, now, c.timers.tpdo);
+        t.timers.srdo = start_after(self.srdo, now, c.timers.srdo);
+        t.tpdo.sample = !self.tpdo & c.tpdo.sample;
+        t
+    }
 }
 
 // The core after a tick.
+#[tactic(auto, unfolding(model::specs::Time::ticked))]
 pub fn ticked(s: State) -> Core
     ensures { result ≡ Time.ticked s }
 {
     let t = clocked(s);
-    let due = due_of(t);
-    let c = t.core;
-    fired(due, c)
+    Due::of(t).fired(t.core)
 }

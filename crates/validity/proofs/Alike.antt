@@ -1,4 +1,4 @@
--- What code does at once is what the table says row by row: the ranges of a group, and what a signature is of. Assumes nothing.
+-- The ranges of a group: what code tests at once is what the table says row by row. Assumes nothing.
 use mathlib.Core.Path.{◌≡◌, refl}
 use mathlib.Core.Bool.{Bool, cond, ◌&&◌, and-true, and_assoc}
 use Prim.Native.Nat.{◌≤◌}
@@ -8,12 +8,8 @@ use Rattle.model.specs.declared.Verdict.TheVariants.{Inside, Outside, Above, Bel
 use Rattle.model.specs.declared.Group.TheVariants.{C, A}
 use Rattle.model.specs.declared.Settings.{Settings}
 use Rattle.model.specs.Reading.{judge_real}
-use Rattle.model.specs.Settings.{odd_cob, even_cob, tpdo_type, rows, in_force, bytes_of, judge, is_inside, in_ranges}
-use Rattle.model.specs.Validity.{signs, valid}
+use Rattle.model.specs.Settings.{odd_cob, even_cob, tpdo_type, rows, in_force, judge, is_inside, in_ranges}
 use Rattle.reading.proofs.Ranges.{tested}
-use Rattle.validity.specs.Signed.{with_c, with_a}
-
--- ---- Ranges
 
 -- a verdict by one test
 above : (b : Bool) → is_inside (cond b Inside Above) ≡ b
@@ -49,15 +45,3 @@ pub ranges_a : (k : Settings)
     ≡ in_ranges (rows A) (in_force k)
 unfolding rows in_ranges judge
 ranges_a k = simp (leb-zero, above, and-true, and_assoc)
-
--- ---- Signatures
-
--- what is signed is as valid as the settings that it is of
-pub valid_c : (k : Settings) → valid C (in_force (with_c k.communication.srdo k.communication.signature)) ≡ valid C (in_force k)
-unfolding valid signs bytes_of
-valid_c k = refl
-
-pub valid_a : (k : Settings)
-    → valid A (in_force (with_a k.application.scaling k.application.digits k.application.signature)) ≡ valid A (in_force k)
-unfolding valid signs bytes_of
-valid_a k = refl

@@ -1,161 +1,135 @@
 // The ranges, the signatures and the validity bytes of the two groups. Any float may be a NaN or an infinity.
 #![tactic(auto)]
 
-ghost use Rattle.std.specs.Prelude.{◌≡◌};
+ghost use Rattle.std.specs.Prelude.{◌≡◌, refl};
+ghost use Rattle.model.specs.declared.Group.{Group};
 ghost use Rattle.model.specs.declared.Group.TheVariants as G;
+ghost use Rattle.model.specs.declared.Settings.{Settings};
 ghost use Rattle.model.specs.Settings as Table;
 ghost use Rattle.model.specs.Validity as Validity;
-ghost use Rattle.validity.specs.Signed.{with_c, with_a};
 
-use model::{Scaling, Settings, SrdoSettings};
+use model::{Application, Communication, VALID};
 use reading::{bits_of, real_fits};
 use settings::table::{is_first_cob, is_second_cob, is_type};
-use settings::values::word;
 use wire::crc::crc;
 
-// ---- Ranges
+// The parameters of a group, and what is asked of them. The answers hold in any settings that have them: nothing else is looked at.
+pub trait Parameters {
+    // Which group it is.
+    ghost group: { Group };
 
-// Whether every parameter of group C is in range. It is asked at every event, so the fields are compared as they stand, with no value made of
-// them, and only those that have a range: 1017h, 1800h:5, 13FEh and 13FFh:1 may be anything.
-pub fn ranges_c(k: Settings) -> bool
-    ensures { result ≡ Table.in_ranges (Table.rows G.C) (Table.in_force k) }
-{
-    (k.communication.srdo.direction <= 1)
-        & (1 <= k.communication.srdo.refresh)
-        & (1 <= k.communication.srdo.validation)
-        & is_first_cob(k.communication.srdo.first)
-        & is_second_cob(k.communication.srdo.second)
-        & is_type(k.communication.tpdo.kind as u32)
-}
+    // Those that some settings have.
+    ghost own: { Settings → Self };
 
-// The same of group A: 51FEh and 51FFh:1 may be anything.
-pub fn ranges_a(k: Settings) -> bool
-    ensures { result ≡ Table.in_ranges (Table.rows G.A) (Table.in_force k) }
-{
-    (k.application.autostart <= 1)
-        & real_fits(k.application.scaling.low)
-        & real_fits(k.application.scaling.high)
-        & real_fits(k.application.scaling.offset)
-        & (k.application.digits <= 4)
-}
+    // Some settings with these for their own.
+    ghost set: { Settings → Self → Settings };
 
-// ---- Signatures
+    // Whether every parameter is in range.
+    fn in_range(&self) -> bool
+        ensures { (k : Settings) → result ≡ Table.in_ranges (Table.rows group) (Table.in_force (set k self.now)) };
 
-// Whether C's signature is right: the SRDO's five parameters are signed, and behind them how many mappings there are and what each one is. And
-// whether the COB-IDs are a pair; the sum is wide, since a COB-ID may be any 32 bits.
-// It takes what is signed and no more: all the settings, by value, would be laid out on the stack anew at each call.
-fn signed_c(srdo: SrdoSettings, signature: u16) -> bool
-    ensures { result ≡ Validity.valid G.C (Table.in_force (with_c srdo signature)) }
-{
-    let refresh = srdo.refresh;
-    let first = word(srdo.first);
-    let second = word(srdo.second);
-    let bytes = [
-        srdo.direction,
-        (refresh % 256) as u8,
-        (refresh / 256) as u8,
-        srdo.validation,
-        first[0],
-        first[1],
-        first[2],
-        first[3],
-        second[0],
-        second[1],
-        second[2],
-        second[3],
-        2,
-        1,
-        0x20,
-        0x01,
-        0x30,
-        0x50,
-        2,
-        0x20,
-        0x02,
-        0x30,
-        0x50,
-    ];
-    (signature == crc(&bytes)) & (srdo.second as u64 == srdo.first as u64 + 1)
-}
+    // Whether the validity byte may be A5h.
+    fn is_valid(&self) -> bool
+        ensures { (k : Settings) → result ≡ Validity.valid group (Table.in_force (set k self.now)) };
 
-// Whether A's signature is right: scaling points, offset and digits are signed. It takes no more than these either.
-fn signed_a(scaling: Scaling, digits: u8, signature: u16) -> bool
-    ensures { result ≡ Validity.valid G.A (Table.in_force (with_a scaling digits signature)) }
-{
-    let low = word(bits_of(scaling.low));
-    let high = word(bits_of(scaling.high));
-    let offset = word(bits_of(scaling.offset));
-    let bytes = [
-        low[0], low[1], low[2], low[3], high[0], high[1], high[2], high[3], offset[0], offset[1],
-        offset[2], offset[3], digits,
-    ];
-    signature == crc(&bytes)
-}
+    // Whether it is A5h.
+    fn vouches(&self) -> bool
+        ensures { (k : Settings) → result ≡ Validity.vouched group (Table.in_force (set k self.now)) };
 
-// ---- The validity bytes
+    // Its own in their places change nothing: what is answered of `own k` is answered of k.
+    ghost set_own: { (k : Settings) → set k (own k) ≡ k };
 
-// Whether 13FEh may be A5h.
-pub fn valid_c(k: Settings) -> bool
-    ensures { result ≡ Validity.valid G.C (Table.in_force k) }
-{
-    let srdo = k.communication.srdo;
-    signed_c(srdo, k.communication.signature)
-}
-
-// Whether 51FEh may be A5h.
-pub fn valid_a(k: Settings) -> bool
-    ensures { result ≡ Validity.valid G.A (Table.in_force k) }
-{
-    let scaling = k.application.scaling;
-    signed_a(scaling, k.application.digits, k.application.signature)
-}
-
-// Whether 13FEh is A5h.
-pub fn vouched_c(k: Settings) -> bool
-    ensures { result ≡ Validity.vouched G.C (Table.in_force k) }
-{
-    k.communication.valid == 0xa5
-}
-
-// Whether 51FEh is A5h.
-pub fn vouched_a(k: Settings) -> bool
-    ensures { result ≡ Validity.vouched G.A (Table.in_force k) }
-{
-    k.application.valid == 0xa5
-}
-
-// Whether 13FEh, where it vouches, does so rightly. The signature is computed only where it is asked for, and not by `valid_c`, which would take all the settings.
-pub fn honest_c(k: Settings) -> bool
-    ensures { result ≡ Validity.honest G.C (Table.in_force k) }
-{
-    if vouched_c(k) {
-        let srdo = k.communication.srdo;
-        return signed_c(srdo, k.communication.signature);
+    // Whether it, where it vouches, does so rightly. The signature is computed only where it is asked for.
+    final fn is_honest(&self) -> bool
+        ensures { (k : Settings) → result ≡ Validity.honest group (Table.in_force (set k self.now)) }
+    {
+        !self.vouches() || self.is_valid()
     }
-    true
-}
 
-// The same of 51FEh.
-pub fn honest_a(k: Settings) -> bool
-    ensures { result ≡ Validity.honest G.A (Table.in_force k) }
-{
-    if vouched_a(k) {
-        let scaling = k.application.scaling;
-        return signed_a(scaling, k.application.digits, k.application.signature);
+    // Whether the group may be in force, and be saved.
+    final fn is_sound(&self) -> bool
+        ensures { (k : Settings) → result ≡ Validity.sound group (Table.in_force (set k self.now)) }
+    {
+        self.in_range() & self.is_honest()
     }
-    true
 }
 
-// Whether group C may be in force, and be saved.
-pub fn sound_c(k: Settings) -> bool
-    ensures { result ≡ Validity.sound G.C (Table.in_force k) }
-{
-    ranges_c(k) & honest_c(k)
+impl Parameters for Communication {
+    ghost group = { G.C };
+
+    ghost own = { λ k. k.communication };
+
+    ghost set = { λ k c. record { communication = c; application = k.application } };
+
+    ghost set_own = { λ k. refl };
+
+    // It is asked at every event, so the fields are compared as they stand, with no value made of them, and only those that have a range:
+    // 1017h, 1800h:5, 13FEh and 13FFh:1 may be anything.
+    fn in_range(&self) -> bool {
+        (self.srdo.direction <= 1)
+            & (1 <= self.srdo.refresh)
+            & (1 <= self.srdo.validation)
+            & is_first_cob(self.srdo.first)
+            & is_second_cob(self.srdo.second)
+            & is_type(self.tpdo.kind as u32)
+    }
+
+    // The SRDO's five parameters are signed, each by its bytes, and behind them how many mappings there are and what each one is. And the COB-IDs have to be a pair;
+    // the sum is wide, since a COB-ID may be any 32 bits.
+    fn is_valid(&self) -> bool {
+        let srdo = &self.srdo;
+        let [direction] = srdo.direction.to_le_bytes();
+        let [refresh0, refresh1] = srdo.refresh.to_le_bytes();
+        let [validation] = srdo.validation.to_le_bytes();
+        let [first0, first1, first2, first3] = srdo.first.to_le_bytes();
+        let [second0, second1, second2, second3] = srdo.second.to_le_bytes();
+        let bytes = [
+            direction, refresh0, refresh1, validation, first0, first1, first2, first3, second0,
+            second1, second2, second3, 2, 1, 0x20, 0x01, 0x30, 0x50, 2, 0x20, 0x02, 0x30, 0x50,
+        ];
+        (self.signature == crc(&bytes)) & (srdo.second as u64 == srdo.first as u64 + 1)
+    }
+
+    // 13FEh.
+    fn vouches(&self) -> bool {
+        self.valid == VALID
+    }
 }
 
-// Whether group A may be.
-pub fn sound_a(k: Settings) -> bool
-    ensures { result ≡ Validity.sound G.A (Table.in_force k) }
-{
-    ranges_a(k) & honest_a(k)
+impl Parameters for Application {
+    ghost group = { G.A };
+
+    ghost own = { λ k. k.application };
+
+    ghost set = { λ k a. record { communication = k.communication; application = a } };
+
+    ghost set_own = { λ k. refl };
+
+    // 51FEh and 51FFh:1 may be anything.
+    fn in_range(&self) -> bool {
+        (self.autostart <= 1)
+            & real_fits(self.scaling.low)
+            & real_fits(self.scaling.high)
+            & real_fits(self.scaling.offset)
+            & (self.digits <= 4)
+    }
+
+    // Scaling points, offset and digits are signed, each by its bytes.
+    fn is_valid(&self) -> bool {
+        let scaling = &self.scaling;
+        let [low0, low1, low2, low3] = bits_of(scaling.low).to_le_bytes();
+        let [high0, high1, high2, high3] = bits_of(scaling.high).to_le_bytes();
+        let [offset0, offset1, offset2, offset3] = bits_of(scaling.offset).to_le_bytes();
+        let [digits] = self.digits.to_le_bytes();
+        let bytes = [
+            low0, low1, low2, low3, high0, high1, high2, high3, offset0, offset1, offset2, offset3,
+            digits,
+        ];
+        self.signature == crc(&bytes)
+    }
+
+    // 51FEh.
+    fn vouches(&self) -> bool {
+        self.valid == VALID
+    }
 }

@@ -1,8 +1,9 @@
 -- Frames laid one after the other. A caller that sends starts at `start`, takes a `step` for each `emit`, and so has what it laid. Assumes nothing.
-use Rattle.std.proofs.Common.{◌≡◌, ℕ, ◌+◌, ◌-◌, ◌*◌, Bool, true, false, List, [], ◌∷◌, ◌++◌, length, take, drop, sym, refl, ap, ◌∙◌, subst, append_assoc, append-nil, le_refl, arith, length-append, length-drop, drop_of_length-le, take_all, drop-drop, take_at}
+use Rattle.std.proofs.Common.{◌≡◌, ℕ, ◌+◌, ◌-◌, ◌*◌, Bool, true, false, Option, Some, None, List, [], ◌∷◌, ◌++◌, length, take, drop, sym, refl, ap, ◌∙◌, append_assoc, append-nil, le_refl, arith, length-append, length-drop, drop_of_length-le, take_all, drop-drop, take_at}
+use Rattle.std.specs.Bool.{then_some}
 use lib.Seq.{drop-append-add}
 use Rattle.model.specs.declared.Frame.{Frame}
-use Rattle.model.specs.Frames.{frame_bytes, when, laid, overlay}
+use Rattle.model.specs.Frames.{frame_bytes, frames_of, when, laid, overlay}
 use Rattle.wire.specs.Laid.{pushed, Emitted, Laid}
 
 -- ---- A part `&mut xs[a..]` that was lent
@@ -24,6 +25,11 @@ tail_put a k xs bs ys e =
     (ap (λ zs. take a xs ++ zs) (append-nil (bs ++ drop (a + k) xs)))
 
 -- ---- Frames
+
+-- a frame where a test holds, as code and as the definitions have it
+pub frames_when : (b : Bool) (f : Frame) → frames_of (then_some b f) ≡ when b f
+frames_when true f = refl
+frames_when false f = refl
 
 pub length_laid : (fs : List Frame) → length (laid fs) ≡ 12 * length fs
 length_laid [] = refl
@@ -51,18 +57,13 @@ unfolding overlay
 start xs = record { number = refl; bytes = refl }
 
 -- one `emit` more
-pub step : {b : Bool} {f : Frame} {fs : List Frame} {xs ys zs : List ℕ} {n r : ℕ} → Laid fs xs ys n → Emitted b f n ys zs r
-    → Laid (fs ++ when b f) xs zs r
-step {b = true} {f} {fs} {xs} l e = record {
+pub step : {q : Option Frame} {fs : List Frame} {xs ys zs : List ℕ} {n r : ℕ} → Laid fs xs ys n → Emitted q n ys zs r
+    → Laid (fs ++ frames_of q) xs zs r
+step {q = Some f} {fs} {xs} l e = record {
   number = rw (length-append fs (f ∷ [])) (omega (arith, l.number, e.number));
   bytes = rw (e.bytes, l.bytes, l.number) (push_overlay fs f xs);
 }
-step {b = false} {f} {fs} {xs} l e = record {
+step {q = None} {fs} {xs} l e = record {
   number = rw (append-nil fs) (omega (arith, l.number, e.number));
   bytes = rw (append-nil fs) (e.bytes ∙ l.bytes);
 }
-
--- the same, for a frame g that a call made and that is f
-pub step_by : {b : Bool} {f g : Frame} {fs : List Frame} {xs ys zs : List ℕ} {n r : ℕ} → Laid fs xs ys n → g ≡ f → Emitted b g n ys zs r
-    → Laid (fs ++ when b f) xs zs r
-step_by {b} {fs} {xs} {zs} {r} l e h = subst (λ (f : Frame). Laid (fs ++ when b f) xs zs r) e (step l h)

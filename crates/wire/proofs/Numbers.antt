@@ -33,7 +33,7 @@ stores_sets : (l : List ℕ) (at : ℕ) (vs : List ℕ) → stores l at vs ≡ s
 stores_sets l at [] = refl
 stores_sets l at (v ∷ vs) = rw add-one (stores_sets (set l at v) (suc at) vs)
 
--- what each `put` cites at its width
+-- what a run of stores leaves, of any width
 pub put_law : (l : List ℕ) (at : ℕ) (vs : List ℕ) → at + length vs ≤ length l → stores l at vs ≡ put at vs l
 unfolding put
 put_law l at vs h = stores_sets l at vs ∙ sets-eq vs l at h

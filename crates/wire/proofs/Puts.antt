@@ -1,6 +1,8 @@
 -- Laws of `put`: a loop that writes a byte a turn, and a writer that goes through a buffer from its front to its end. Assumes nothing.
-use Rattle.std.proofs.Common.{◌≡◌, ℕ, ◌+◌, ◌<◌, ◌≤◌, List, [], ◌++◌, length, get_or, take, drop, set, sym, refl, ap, ◌∙◌, append-nil, le_antisymm, add-one, arith, length-append, length-drop, drop_of_length-le, length-take, length-take-le, take_all, take_at}
-use lib.Seq.{take-length, paste, paste-suc}
+use Rattle.std.proofs.Common.{◌≡◌, ℕ, ◌+◌, ◌≤◌, List, [], ◌++◌, length, take, drop, sym, refl, ap, ◌∙◌, append-nil, arith, length-append, length-drop, drop_of_length-le, length-take, length-take-le, take_all, take_at}
+use Rattle.std.proofs.lemmas.Slice.{put_mid-paste}
+use borrow.Rule.Slice.PartMut.{put_mid}
+use lib.Seq.{take-length, paste}
 use Rattle.wire.specs.Put.{put}
 
 pub length_put : (at : ℕ) (vs l : List ℕ) → at + length vs ≤ length l → length (put at vs l) ≡ length l
@@ -19,17 +21,14 @@ pub put_all : (vs l : List ℕ) → length vs ≡ length l → put 0 vs l ≡ vs
 unfolding put
 put_all vs l e = rw (drop_of_length-le l {i = 0 + length vs} (omega arith)) (append-nil vs)
 
--- ---- A loop that puts s into d, one byte a turn
-
--- a turn
-pub paste_turn : (d e s : List ℕ) (at j v : ℕ) → at + length s ≤ length d → j < length s → v ≡ get_or s j 0 → e ≡ paste d at s j
-    → set e (at + j) v ≡ paste d at s (j + 1)
-paste_turn d e s at j v room h k q = rw (add-one, k, q) (paste-suc d at s j 0 (omega arith) h)
-
--- the end
-pub paste_all : (d e s : List ℕ) (at j : ℕ) → j ≤ length s → length s ≤ j → e ≡ paste d at s j → e ≡ put at s d
+-- all of vs, copied
+pub put_pasted : (l : List ℕ) (at : ℕ) (vs : List ℕ) (n : ℕ) → n ≡ length vs → paste l at vs n ≡ put at vs l
 unfolding put
-paste_all d e s at j h k q = q ∙ rw (le_antisymm h k, take-length s)
+put_pasted l at vs n h = rw (h, take-length)
+
+-- a write to the k bytes `l[at..at + k]`, which are vs now
+pub put_part : (at k : ℕ) (l vs : List ℕ) → k ≡ length vs → put_mid at k l vs ≡ put at vs l
+put_part at k l vs h = put_mid-paste at k l vs vs (length vs) refl (sym h) refl ∙ put_pasted l at vs (length vs) refl
 
 -- ---- A writer that goes from front to end: nothing is said of what it has yet to write
 

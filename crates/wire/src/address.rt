@@ -6,12 +6,12 @@ ghost use Rattle.model.specs.Store.{node_id, bit_index};
 pub fn is_node_id(n: u8) -> bool
     ensures { result ≡ node_id n }
 {
-    (1 <= n) & (n <= 127)
+    matches!(n, 1..=127)
 }
 
 // A bit index of the table of bit rates: 1 and 5 are reserved.
 pub fn is_bit_index(n: u8) -> bool
     ensures { result ≡ bit_index n }
 {
-    (n <= 8) & ((n != 1) & (n != 5))
+    (n <= 8) & !matches!(n, 1 | 5)
 }

@@ -6,14 +6,14 @@ ghost use Rattle.model.specs.Clock as Clock;
 pub fn next(clock: u16) -> u16
     ensures { result ≡ Clock.next clock }
 {
-    std::num::wrapping_add_u16(clock, 1)
+    clock.wrapping_add(1)
 }
 
 // The time since a timer's start.
 pub fn elapsed(clock: u16, start: u16) -> u16
     ensures { result ≡ Clock.elapsed clock start }
 {
-    std::num::wrapping_sub_u16(clock, start)
+    clock.wrapping_sub(start)
 }
 
 // Whether a timer's period has passed.
@@ -27,8 +27,5 @@ pub fn fires(clock: u16, start: u16, period: u16) -> bool
 pub fn fires_unless_off(clock: u16, start: u16, period: u16) -> bool
     ensures { result ≡ Clock.fires_unless_off clock start period }
 {
-    if period == 0 {
-        return false;
-    }
-    fires(clock, start, period)
+    period != 0 && fires(clock, start, period)
 }

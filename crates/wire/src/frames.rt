@@ -59,18 +59,12 @@ fn put_frame(out: &mut [u8], frame: Frame)
     requires { 12 ≤ List.length out.old }
     ensures { out.new ≡ frame_bytes frame ++ List.drop 12 out.old }
 {
-    out[0] = (frame.id % 256) as u8;
-    out[1] = (frame.id / 256) as u8;
-    out[2] = 0;
-    out[3] = frame.len;
-    out[4] = frame.d0;
-    out[5] = frame.d1;
-    out[6] = frame.d2;
-    out[7] = frame.d3;
-    out[8] = frame.d4;
-    out[9] = frame.d5;
-    out[10] = frame.d6;
-    out[11] = frame.d7;
+    let [low, high] = frame.id.to_le_bytes();
+    let bytes = [
+        low, high, 0, frame.len, frame.d0, frame.d1, frame.d2, frame.d3, frame.d4, frame.d5,
+        frame.d6, frame.d7,
+    ];
+    out[..12].copy_from_slice(&bytes);
 }
 
 // Frame number n, from 0, goes to 12 * n, and n + 1 comes back.
@@ -83,10 +77,13 @@ pub fn push(out: &mut [u8], n: usize, frame: Frame) -> usize
     n + 1
 }
 
-// A frame where it is due, else nothing; the number of frames then comes back.
-pub fn emit(out: &mut [u8], n: usize, due: bool, frame: Frame) -> usize
+// A frame where there is one, else nothing; the number of frames then comes back.
+pub fn emit(out: &mut [u8], n: usize, frame: Option<Frame>) -> usize
     requires { (12 * n + 12 ≤ List.length out.old) × (n ≤ 3) }
-    ensures { Emitted due frame n out.old out.new result }
+    ensures { Emitted frame n out.old out.new result }
 {
-    if due { push(out, n, frame) } else { n }
+    match frame {
+        Some(frame) => push(out, n, frame),
+        None => n,
+    }
 }

@@ -1,9 +1,9 @@
--- `read_full`: what is read stays within the buffer, and each turn reads more. Assumes nothing.
-use Rattle.std.proofs.Common.{◌-◌, ◌≤◌, length}
+-- `read_full`: each turn leaves less to fill. Assumes nothing.
+use Rattle.std.proofs.Common.{◌≤◌, length}
 use Rattle.events.proofs.read_full.Given as goal
 
-abbrev pub invariant-loop-done : goal.invariant-loop-done
-invariant-loop-done l = l.done ≤ length l.buf
+abbrev pub invariant-loop-input : goal.invariant-loop-input
+invariant-loop-input l = length l.rest ≤ l.len
 
-abbrev pub decreases-loop-done : goal.decreases-loop-done
-decreases-loop-done l = length l.initial.buf - l.done
+abbrev pub decreases-loop-input : goal.decreases-loop-input
+decreases-loop-input l = length l.rest

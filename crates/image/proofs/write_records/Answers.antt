@@ -4,6 +4,6 @@ use Rattle.image.proofs.write_records.Goals as goal
 
 pub returns : goal.returns
 returns c =
-    let a = c.args in
-    records_law a.out.now _ _ _ _ a.n.now a.c.now a.a.now c.requires.0 c.requires.1
+    let r = c.args.r in
+    records_law c.args.out.now _ _ _ _ r.n.now r.c.now r.a.now c.told-out c.requires
     c.copy.ensures c.copy-2.ensures c.copy-3.ensures c.zeros.ensures

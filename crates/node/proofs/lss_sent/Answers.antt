@@ -6,13 +6,13 @@ use Rattle.wire.proofs.Lay.{start}
 use Rattle.output.proofs.Ticks.{laid_as}
 use Rattle.node.proofs.lss_sent.Goals as goal
 
-pub returns-then-s-eq127 : goal.returns-then-s-eq127
+pub returns-then-s-eq-PRE_OPERATIONAL : goal.returns-then-s-eq-PRE_OPERATIONAL
 unfolding Step.reply Step.heard
-returns-then-s-eq127 c =
+returns-then-s-eq-PRE_OPERATIONAL c =
     let sent = c.replied.ensures in
-    rw (eq-eqb _ _ c.if-s-eq127.true)
+    rw (eq-eqb _ _ c.if-s-eq-PRE_OPERATIONAL.true)
     (record { laid = laid_as sent.laid c.lss_reply.ensures; core = sent.core ∙ c.lss_served.ensures })
 
 pub returns : goal.returns
 unfolding Step.reply Step.heard
-returns c = rw (ne_eqb _ _ c.if-s-eq127.false) (record { laid = start _; core = refl })
+returns c = rw (ne_eqb _ _ c.if-s-eq-PRE_OPERATIONAL.false) (record { laid = start _; core = refl })

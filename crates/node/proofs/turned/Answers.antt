@@ -11,22 +11,22 @@ use Rattle.node.proofs.turned.Goals as goal
 pub emcy_after-told-requires : goal.emcy_after-told-requires
 emcy_after-told-requires c =
     let p = c.requires.0 in
-    let settled = c.settings_after-settings.ensures in
-    (rw settled p.after.digits, rw (c.core_after-core.ensures p.asks c.args.s p.heard refl, settled) p.after.id)
+    let settled = c.settings_after-settings.ensures p.store p.contents in
+    (rw settled p.after.digits, rw (c.core_after-core.ensures p.asks c.args.s p.store p.heard refl p.contents, settled) p.after.id)
 
 pub returns : goal.returns
 returns c =
-    let a = c.args in
-    let st = read a.store.now in
-    let settled = c.settings_after-settings.ensures in
+    let a = c.args.asked in
+    let s = c.args.s in
     let reply = frames_of a.reply in
     let boot = frames_of c.booted-boot.result in
     let emcy = frames_of c.emcy_after-told.result.emcy in
-    λ v heard.
-    let core = c.core_after-core.ensures v a.s heard refl in
+    λ v st heard held.
+    let settled = c.settings_after-settings.ensures st held in
+    let core = c.core_after-core.ensures v s st heard refl held in
     let judged =
-    c.emcy_after-told.ensures (Step.changed a.c v a.s st) (ap (λ (k : Settings). k.application) (sym settled))
-    (sym (core ∙ ap (Step.core_after a.c v a.s st) settled)) in
+    c.emcy_after-told.ensures (Step.changed a.change v s (read st)) (ap (λ (k : Settings). k.application) (sym settled))
+    (sym (core ∙ ap (Step.core_after a.change v s (read st)) settled)) in
     let order =
-    append_assoc reply boot emcy ∙ ap (λ fs. reply ++ (fs ++ emcy)) c.booted-boot.ensures ∙ ap (λ fs. reply ++ (Step.booted a.c ++ fs)) judged.emcy in
+    append_assoc reply boot emcy ∙ ap (λ fs. reply ++ (fs ++ emcy)) c.booted-boot.ensures ∙ ap (λ fs. reply ++ (Step.booted a.change ++ fs)) judged.emcy in
     record { number = refl; laid = laid_as c.send-count.ensures order; state = rw (judged.reported, core, settled) }

@@ -11,16 +11,16 @@ use Rattle.node.proofs.wake.Goals as goal
 pub turned-requires : goal.turned-requires
 unfolding Step.heard
 turned-requires c =
-    let loads = ap (λ (a : Address). Load Both a.id) c.address-saved.ensures in (
+    let loads = rw c.read-contents.ensures at (ap (λ (a : Address). Load Both a.id) c.address.ensures) in (
       record {
         asks = Service.Nothing;
         heard = refl;
         suits = suits_load _ _ loads;
-        sizes = c.saved_sizes-z.ensures;
+        store = c.args.store.now;
+        contents = c.read-contents.ensures;
         after = rw c.unborn-s.ensures (fit_awake c.args.identity _ _ loads);
-        size = c.requires.0;
       },
-      c.requires.1,
+      c.requires,
     )
 
 pub returns : goal.returns
@@ -28,7 +28,7 @@ unfolding Step.power_on Step.reply Step.heard
 returns c =
     let i = c.args.identity in
     let st = c.args.store.now in
-    let loads = ap (λ (a : Address). Load Both a.id) c.address-saved.ensures in
+    let loads = rw c.read-contents.ensures at (ap (λ (a : Address). Load Both a.id) c.address.ensures) in
     of_change Service.Nothing (Step.unborn i) st _ loads
-    (gives_served _ Service.Nothing (Step.unborn i) st refl c.silent.ensures refl refl (load_leaves i st _ loads)
-    (rw c.unborn-s.ensures at (c.turned.ensures Service.Nothing refl)))
+    (gives_served _ Service.Nothing (Step.unborn i) st refl refl refl refl (load_leaves i st _ loads)
+    (rw c.unborn-s.ensures at (c.turned.ensures Service.Nothing st refl c.read-contents.ensures)))

@@ -1,8 +1,8 @@
 -- `rules::power_on_refusal` meets its contract: each return by the tests before it. Assumes nothing.
-use borrow.Author.Tests.{ne_eqb, eq-eqb, lt-ltb, le-ltb}
 use Rattle.model.specs.Choice.{first_hit}
 use Rattle.model.specs.Step as Step
 use Rattle.rules.proofs.power_on_refusal.Goals as goal
+use borrow.Author.Tests.{ne_eqb, eq-eqb, lt-ltb, le-ltb}
 
 pub returns-then-out-lt48 : goal.returns-then-out-lt48
 unfolding Step.power_on_refusal first_hit

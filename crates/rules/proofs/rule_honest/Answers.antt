@@ -4,4 +4,4 @@ use Rattle.rules.proofs.rule_honest.Goals as goal
 
 pub returns : goal.returns
 unfolding Rules.rule_honest
-returns c = rw (c.honest_a.ensures, c.honest_c.ensures)
+returns c = let k = c.args.s.settings in rw (c.is_honest-2.ensures k, c.is_honest.ensures k)

@@ -4,4 +4,4 @@ use Rattle.rules.proofs.rule_ranges.Goals as goal
 
 pub returns : goal.returns
 unfolding Rules.rule_ranges
-returns c = rw (c.ranges_a.ensures, c.ranges_c.ensures)
+returns c = let k = c.args.s.settings in rw (c.in_range-2.ensures k, c.in_range.ensures k)

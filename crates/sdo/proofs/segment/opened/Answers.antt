@@ -1,9 +1,8 @@
--- `sdo::segment::opened` meets its contract: the name is at 1008h:0 and nowhere else; laws `at_name` and `elsewhere`. Assumes nothing.
-use Rattle.sdo.proofs.Name.{at_name, elsewhere}
+-- `sdo::segment::opened` meets its contract: the name is at 1008h:0 and nowhere else, by the whole table. Assumes nothing.
+use native.Mathlib.Omega.{arith}
+use Rattle.model.specs.Dictionary.{find}
 use Rattle.sdo.proofs.segment.opened.Goals as goal
 
-pub returns-then-index-sub : goal.returns-then-index-sub
-returns-then-index-sub c = let a = c.args in at_name a.index a.sub c.if-index-sub.true
-
 pub returns : goal.returns
-returns c = let a = c.args in rw c.no_upload.ensures (elsewhere a.index a.sub c.if-index-sub.false)
+unfolding find
+returns c = grind arith

@@ -8,4 +8,4 @@ use Rattle.store.proofs.load.factory.Goals as goal
 pub returns : goal.returns
 unfolding factory record_of
 returns c = block _ _ _ _ _ c.copy.ensures c.copy-2.ensures (search rules) (search rules) (search rules)
-    ∙ rw (c.encode_a-a.ensures, c.encode_c-c.ensures, c.defaults-k.ensures, defaults_in_force c.args.id)
+    ∙ rw (c.encode-a.ensures c.defaults-k.result, c.encode-c.ensures c.defaults-k.result, c.defaults-k.ensures, defaults_in_force c.args.id)

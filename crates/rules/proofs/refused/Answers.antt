@@ -1,6 +1,0 @@
--- `rules::refused` meets its contract: the code is the answer. Assumes nothing.
-use mathlib.Core.Path.{refl}
-use Rattle.rules.proofs.refused.Goals as goal
-
-pub returns : goal.returns
-returns c = refl
