@@ -24,7 +24,7 @@ fn integer(s: State) -> Integer
     integer_pv(pv(s), s.settings.application.digits)
 }
 
-// The error register: 81h while the reading is capped.
+// The error register: 81h while the reading is capped. `time` has it of a flag, for EMCY: the two crates don't see each other, and one line is no crate.
 #[tactic(auto, unfolding(model::specs::Parts::error_register))]
 fn error_register(s: State) -> u8
     requires { s.settings.application.digits ≤ 4 }

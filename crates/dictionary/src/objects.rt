@@ -41,7 +41,7 @@ fn one(sub: u8, e: Entry) -> Result<Entry, Missing>
     }
 }
 
-// ---- The records of several entries
+// ---- The records of several entries: alike in form, but each line is a row of the document's table
 
 // 1010h and 1011h: a sub for both groups, then one for each. What a write of the word does to them, the caller says.
 fn words<F: Fn(Groups) -> Entry>(sub: u8, word: F) -> Result<Entry, Missing>

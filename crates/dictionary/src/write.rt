@@ -78,7 +78,7 @@ fn earned(p: Parameter, v: Value, s: State) -> Result<(), AbortCode>
     Ok(())
 }
 
-// ---- The write checks
+// ---- The write checks: size, bytes and state stay apart, as the definitions of the checks take them
 
 // A write to a saved parameter: its access, its range, then its validity.
 fn write_setting(p: Parameter, size: Option<u8>, d: u32, s: State) -> Result<Change, AbortCode>

@@ -17,7 +17,7 @@ pub struct Records<'a> {
     pub a: &'a [u8],
 }
 
-// How many bytes of an image are records.
+// How many bytes of an image are records. That they fit into it stays a clause: `is_own` and `write_image` take all that fit.
 #[derive(Clone, Copy, Default)]
 pub struct Sizes {
     pub n: usize,

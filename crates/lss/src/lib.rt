@@ -11,7 +11,7 @@ use wire::address::{is_bit_index, is_node_id};
 
 // ---- Selection
 
-// The four numbers of the identity, from 0. A part stays a number: what `identity_part` and `matches` say of every one, and `LssRequest`, may not change.
+// The four numbers of the identity, from 0. A part stays a number: `lss_served` answers every one.
 #[tactic(auto, unfolding(model::specs::Lss::identity_part, model::specs::Choice::first_hit))]
 fn identity_part(n: u8, i: Identity) -> u32
     ensures { result ≡ Lss.identity_part n i }
@@ -42,7 +42,8 @@ fn selects(n: u8, number: u32, s: State) -> bool
     (n == 3) & matched
 }
 
-// The selection after a number: back to none where it doesn't match.
+// The selection after a number: back to none where it doesn't match. That at most three have matched stays a clause, here and below: C's state has
+// a byte there.
 #[tactic(auto, unfolding(model::specs::Lss::selection_after, model::specs::Lss::matches))]
 fn selection_after(n: u8, number: u32, s: State) -> Selection
     requires { s.core.lss.progress ≤ 3 }
@@ -67,7 +68,7 @@ fn selection_after(n: u8, number: u32, s: State) -> Selection
     }
 }
 
-// Mode 0 is waiting, 1 configuration; another changes nothing. It stays the byte of the frame, of which `mode_after` says what each value does.
+// Mode 0 is waiting, 1 configuration; another changes nothing. It stays the byte of the frame: `lss_served` answers every one.
 #[tactic(auto, unfolding(model::specs::Lss::mode_after, model::specs::Choice::first_hit))]
 fn mode_after(mode: u8, on: bool) -> bool
     ensures { result ≡ Lss.mode_after mode on }

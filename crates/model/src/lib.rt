@@ -149,7 +149,8 @@ pub enum Content {
 
 // ---- What an event asks, by its bytes alone
 
-// An SDO request. A download has a size where one is indicated; its data are the four bytes, low first.
+// An SDO request. A download has a size where one is indicated; its data are the four bytes, low first. A toggle is the frame's bit, beside which
+// C's `Upload` has a byte.
 #[derive(Clone, Copy)]
 pub enum SdoRequest {
     Download {
@@ -186,7 +187,8 @@ pub enum LssRequest {
     OtherLss,
 }
 
-// A service and what is asked of it. `to` is the Node-ID that the CAN-ID or the NMT frame names.
+// A service and what is asked of it. `to` is the Node-ID that the CAN-ID or the NMT frame names. An NMT command stays a byte here: `commanded` says what
+// every byte does.
 #[derive(Clone, Copy)]
 pub enum Service {
     Nothing,

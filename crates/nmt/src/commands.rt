@@ -1,4 +1,4 @@
-// The NMT commands, each decoded once from its byte.
+// The NMT commands, decoded from their bytes.
 ghost use Rattle.nmt.specs.Commands.{Decodes};
 
 // What an NMT frame asks of a node.

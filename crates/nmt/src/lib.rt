@@ -15,7 +15,7 @@ use model::{
 };
 use settings::table::defaults;
 use time::frames::heartbeat_frame;
-use time::restarts::restart;
+use time::restarts::restart_timer;
 
 // ---- Start, Stop and Pre-operational
 
@@ -54,7 +54,10 @@ pub fn start(k: Settings, c: Core) -> Core
     ensures { result ≡ Nmt.start k c }
 {
     if c.nmt != OPERATIONAL && start_obeyed(k) {
-        restart(Timer::Srdo, restart(Timer::Tpdo, leave_for(OPERATIONAL, c)))
+        restart_timer(
+            Timer::Srdo,
+            restart_timer(Timer::Tpdo, leave_for(OPERATIONAL, c)),
+        )
     } else {
         c
     }
@@ -136,9 +139,9 @@ pub fn cleared(c: Core) -> Core
     t.lss = NO_SELECTION;
     t.upload = NO_UPLOAD;
     t.reported = false;
-    restart(
+    restart_timer(
         Timer::Srdo,
-        restart(Timer::Tpdo, restart(Timer::Heartbeat, t)),
+        restart_timer(Timer::Tpdo, restart_timer(Timer::Heartbeat, t)),
     )
 }
 
@@ -163,7 +166,7 @@ pub fn reset(gs: Groups, id: u8, bit: u8, k: Settings, c: Core) -> Core
     auto_start(k, cleared(readied(gs, id, bit, c)))
 }
 
-// The boot-up is a heartbeat with 0 for the NMT state.
+// The boot-up is a heartbeat with 0 for the NMT state. The Node-ID's bound is a clause here as in `time`.
 pub fn boot_up(id: u8) -> Frame
     requires { id ≤ 127 }
     ensures { result ≡ Nmt.boot_up id }

@@ -39,7 +39,7 @@ fn answered(sent: Sent, s: State) -> Answer
     }
 }
 
-// An LSS request sends its answer, in Pre-operational alone.
+// An LSS request sends its answer, in Pre-operational alone. `Fit` and the room stay clauses, here and below, as in `output`.
 fn lss_sent(request: LssRequest, s: State, out: &mut [u8]) -> Sent
     requires { Fit s × ((part_of request ≤ 3) × (48 ≤ length out.old)) }
     ensures { Leaves (Step.reply (Service.Lss request) s) (Step.heard (Service.Lss request) s) out.old out.new result }
@@ -104,7 +104,7 @@ pub fn power_on(identity: Identity, out: &mut [u8], store: &[u8]) -> Answer
         let mut nowhere = [0u8; 48];
         let woken = wake(identity, &mut nowhere, &zeros);
         let state = woken.state;
-        return refused(reason.number(), state);
+        return refused(reason.into(), state);
     }
     let Some(store) = store.as_array() else {
         unreachable!()
@@ -154,7 +154,7 @@ pub fn event(event: &[u8], state: State, out: &mut [u8], store: &mut [u8]) -> An
     ensures { Gives (Step.event_answer event.now state out.old store.old) result out.new store.new }
 {
     if let Err(reason) = refusal(event, state, out.len(), store.len()) {
-        return refused(reason.number(), state);
+        return refused(reason.into(), state);
     }
     let Some(store) = store.as_mut_array() else {
         unreachable!()

@@ -58,7 +58,8 @@ pub fn emcy_after(a: Application, c: Core) -> Reported
 
 // ---- An event that leaves the parameters
 
-// `Fit` and the room of 48 bytes stay clauses: a struct around a state or an output that C lends would have each promise speak of its field.
+// `Fit` stays a clause: a struct around the state that C lends would have each promise speak of its field. So does the room of 48 bytes: these
+// functions take every output from there on, and `[u8; 48]` would ask for one of that size.
 
 // What an event that leaves the parameters comes to: how many frames went out, and the core after it.
 #[derive(Clone, Copy)]

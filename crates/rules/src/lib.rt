@@ -17,6 +17,7 @@ use wire::frames::{can_id, flag, kind_of, length};
 // ---- The state rules. A state is whatever a caller built: its floats may be NaN, and its digits any
 
 // The Node-ID and the pending one.
+#[tactic(auto, unfolding(model::specs::Rules::rule_ids))]
 fn rule_ids(s: State) -> bool
     ensures { result ≡ Rules.rule_ids s }
 {
@@ -24,6 +25,7 @@ fn rule_ids(s: State) -> bool
 }
 
 // The bit index and the pending one.
+#[tactic(auto, unfolding(model::specs::Rules::rule_bits))]
 fn rule_bits(s: State) -> bool
     ensures { result ≡ Rules.rule_bits s }
 {
@@ -31,6 +33,7 @@ fn rule_bits(s: State) -> bool
 }
 
 // One of the three NMT states.
+#[tactic(auto, unfolding(model::specs::Rules::rule_nmt))]
 fn rule_nmt(s: State) -> bool
     ensures { result ≡ Rules.rule_nmt s }
 {
@@ -52,6 +55,7 @@ fn rule_honest(s: State) -> bool
 }
 
 // Operational only with parameters that Start would accept.
+#[tactic(auto, unfolding(model::specs::Rules::rule_start))]
 fn rule_start(s: State) -> bool
     ensures { result ≡ Rules.rule_start s }
 {
@@ -63,6 +67,7 @@ fn rule_start(s: State) -> bool
 }
 
 // The reported flag tells whether the reading is capped, unless Stopped: no EMCY is due.
+#[tactic(auto, unfolding(model::specs::Rules::rule_reported))]
 fn rule_reported(s: State) -> bool
     requires { s.settings.application.digits ≤ 4 }
     ensures { result ≡ Rules.rule_reported s }
@@ -72,6 +77,7 @@ fn rule_reported(s: State) -> bool
 }
 
 // LSS configuration in Pre-operational alone, and a progress of at most three numbers.
+#[tactic(auto, unfolding(model::specs::Rules::rule_lss))]
 fn rule_lss(s: State) -> bool
     ensures { result ≡ Rules.rule_lss s }
 {
@@ -79,6 +85,7 @@ fn rule_lss(s: State) -> bool
 }
 
 // SYNCs are counted below a type of 1..240, and by no other type.
+#[tactic(auto, unfolding(model::specs::Rules::rule_sync))]
 fn rule_sync(s: State) -> bool
     ensures { result ≡ Rules.rule_sync s }
 {
@@ -91,6 +98,7 @@ fn rule_sync(s: State) -> bool
 }
 
 // An open upload is before one of the name's three segments.
+#[tactic(auto, unfolding(model::specs::Rules::rule_upload))]
 fn rule_upload(s: State) -> bool
     ensures { result ≡ Rules.rule_upload s }
 {
@@ -134,27 +142,19 @@ pub fn rules(s: State) -> bool
 // Why a call is refused: the rows of the document's table, the lowest number first.
 #[derive(Clone, Copy, Debug, PartialEq, Eq)]
 pub enum Reason {
-    NotAnEvent,
-    UnknownKind,
-    BadFrame,
-    ShortOutput,
-    WrongStore,
-    BrokenState,
+    NotAnEvent = 1,
+    UnknownKind = 2,
+    BadFrame = 3,
+    ShortOutput = 4,
+    WrongStore = 5,
+    BrokenState = 6,
 }
 
-impl Reason {
-    // Its number in the table.
-    pub fn number(self) -> u8
-        ensures { result ≡ number_of self }
-    {
-        match self {
-            Reason::NotAnEvent => 1,
-            Reason::UnknownKind => 2,
-            Reason::BadFrame => 3,
-            Reason::ShortOutput => 4,
-            Reason::WrongStore => 5,
-            Reason::BrokenState => 6,
-        }
+impl From<Reason> for u8 {
+    ghost from_gives = { λ r n. n ≡ number_of r };
+
+    fn from(reason: Reason) -> u8 {
+        reason as u8
     }
 }
 
@@ -166,6 +166,7 @@ fn bad_frame(event: &[u8]) -> bool
 }
 
 // The refusals of an event's bytes.
+#[tactic(auto, unfolding(model::specs::Choice::first_hit))]
 fn event_refusal(event: &[u8]) -> Result<(), Reason>
     ensures { numbered result ≡ first_hit (Step.by_event event.now) Step.done }
 {
@@ -183,6 +184,7 @@ fn event_refusal(event: &[u8]) -> Result<(), Reason>
 }
 
 // The refusals of what is lent, by its lengths: all that a power-on can be refused by.
+#[tactic(auto, unfolding(model::specs::Step::power_on_refusal, model::specs::Choice::first_hit))]
 pub fn power_on_refusal(out: usize, store: usize) -> Result<(), Reason>
     ensures { numbered result ≡ Step.power_on_refusal out store }
 {
@@ -207,7 +209,7 @@ pub fn refusal(event: &[u8], s: State, out: usize, store: usize) -> Result<(), R
     Ok(())
 }
 
-// The answer of a refused call: no frame, and the state that it hands back.
+// The answer of a call that sends nothing: its number, which C has, and the state that it hands back. It is one of every number.
 pub fn refused(number: u8, state: State) -> Answer
     ensures { result ≡ Step.turned_away number state }
 {

@@ -1,5 +1,5 @@
 -- What `serve` asks of the state and what it ensures, and the values that it puts together. Assumes nothing.
-use Rattle.std.specs.Prelude.{◌≡◌, true, ℕ, ◌≤◌, Result, Some, None}
+use Rattle.std.specs.Prelude.{◌≡◌, true, ℕ, ◌≤◌, Result, Option, Some}
 use Rattle.model.specs.declared.Change.{Change}
 use Rattle.model.specs.declared.Change.TheVariants.{Keep}
 use Rattle.model.specs.declared.Frame.{Frame}
@@ -22,13 +22,9 @@ pub record IsServed (request : SdoRequest) (s : State) (r : Served) : Type 0 whe
   pub change : r.change ≡ sdo_change request s
   pub frames : frames_of r.reply ≡ sdo_reply request s
 
--- a frame is sent, and nothing changes
-abbrev pub told : Frame → Served
-told f = record { change = Keep; reply = Some f }
-
--- nothing is sent, and nothing changes
-abbrev pub unanswered : Served
-unanswered = record { change = Keep; reply = None }
+-- nothing changes, and this is the reply
+abbrev pub told : Option Frame → Served
+told q = record { change = Keep; reply = q }
 
 -- a write that was checked
 abbrev pub written : Result Change ℕ → ℕ → ℕ → State → Served

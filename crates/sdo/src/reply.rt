@@ -4,7 +4,6 @@
 ghost use Rattle.std.specs.Prelude.{◌≡◌, ◌≤◌};
 ghost use Rattle.model.specs.Parts.{id_of};
 ghost use Rattle.model.specs.Sdo as Sdo;
-ghost use Rattle.dictionary.specs.Codes.{coded};
 
 use dictionary::abort::AbortCode;
 use dictionary::content::content;
@@ -63,12 +62,12 @@ impl Named {
     }
 
     // The reply to a write that was checked.
-    pub fn write_reply(&self, checked: Result<Change, AbortCode>) -> Frame
-        ensures { result ≡ Sdo.write_reply (coded checked) self.now.index self.now.sub self.now.state }
+    pub fn write_reply(&self, checked: Result<Change, u32>) -> Frame
+        ensures { result ≡ Sdo.write_reply checked self.now.index self.now.sub self.now.state }
     {
         match checked {
             Ok(_) => self.acknowledged(),
-            Err(code) => self.aborted(code.into()),
+            Err(code) => self.aborted(code),
         }
     }
 

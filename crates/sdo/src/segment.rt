@@ -62,7 +62,7 @@ pub fn sends_segment(toggle: u8, u: Upload) -> bool
     u.busy & (toggle == u.toggle)
 }
 
-// The segment that is next. Its command byte is 10h for a toggle of 1, plus twice the number of unused bytes, plus 1 for the last.
+// The segment that is next. It names no index and sub, so the bound of the Node-ID is a clause here. Its command byte is 10h for a toggle of 1, plus twice the number of unused bytes, plus 1 for the last.
 #[tactic(auto, unfolding(model::specs::Sdo::segment_command, model::specs::Bytes::part))]
 fn segment(s: State) -> Frame
     requires { (id_of s ≤ 127) × (at_segment s.core.upload ≡ true) }

@@ -4,7 +4,7 @@ ghost use Rattle.model.specs.Dictionary as Table;
 ghost use Rattle.model.specs.Parts.{id_of};
 ghost use Rattle.model.specs.Rules.{rule_upload};
 ghost use Rattle.model.specs.Sdo as Sdo;
-ghost use Rattle.sdo.specs.Serve.{Ready, IsServed, told, unanswered, written};
+ghost use Rattle.sdo.specs.Serve.{Ready, IsServed, told, written};
 
 use super::reply::Named;
 use super::segment::{open_index, opened, segment_reply, segment_sent, sends_segment};
@@ -34,23 +34,13 @@ pub fn upload_after(request: SdoRequest, s: State) -> Upload
     }
 }
 
-// A frame is sent, and nothing changes.
-fn tell(frame: Frame) -> Served
-    ensures { result ≡ told frame }
+// Nothing changes, and this is the reply.
+fn told(reply: Option<Frame>) -> Served
+    ensures { result ≡ told reply }
 {
     Served {
         change: Change::Keep,
-        reply: Some(frame),
-    }
-}
-
-// Nothing is sent, and nothing changes.
-fn silent() -> Served
-    ensures { result ≡ unanswered }
-{
-    Served {
-        change: Change::Keep,
-        reply: None,
+        reply,
     }
 }
 
@@ -59,7 +49,9 @@ impl Named {
     fn write(&self, size: Option<u8>, d: u32) -> Served
         ensures { let at = self.now in result ≡ written (Sdo.checked_write (Table.find at.index at.sub) size d at.state) at.index at.sub at.state }
     {
-        let checked = checked_write(find(self.index, self.sub), size, d, self.state);
+        let checked = checked_write(find(self.index, self.sub), size, d, self.state).map_err(
+            u32::from,
+        );
         let frame = self.write_reply(checked);
         Served {
             change: checked.unwrap_or(Change::Keep),
@@ -83,13 +75,15 @@ pub fn serve(request: SdoRequest, s: State) -> Served
             data,
         } => Named::new(index, sub, s).write(size, data),
         SdoRequest::Upload { index, sub } => {
-            tell(Named::new(index, sub, s).read_reply(find(index, sub)))
+            told(Some(Named::new(index, sub, s).read_reply(find(index, sub))))
         }
-        SdoRequest::UploadSegment { toggle } => tell(segment_reply(toggle, s)),
-        SdoRequest::ClientAbort => silent(),
+        SdoRequest::UploadSegment { toggle } => told(Some(segment_reply(toggle, s))),
+        SdoRequest::ClientAbort => told(None),
         SdoRequest::DownloadSegment => {
-            tell(Named::new(open_index(s.core.upload), 0, s).aborted(unknown))
+            told(Some(Named::new(open_index(s.core.upload), 0, s).aborted(unknown)))
         }
-        SdoRequest::Unknown { index, sub } => tell(Named::new(index, sub, s).aborted(unknown)),
+        SdoRequest::Unknown { index, sub } => told(Some(Named::new(index, sub, s).aborted(
+            unknown,
+        ))),
     }
 }

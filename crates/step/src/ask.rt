@@ -78,7 +78,7 @@ fn serves(to: u8, s: State) -> bool
     (to == s.core.active.id) & (s.core.nmt != STOPPED)
 }
 
-// An SDO request, where it is served.
+// An SDO request, where it is served. `Fit` stays a clause, here and below: it is said of the state, which C has.
 #[tactic(auto, using(crate::proofs::Unread::sdo_unread), unfolding(model::specs::Step::change_of, model::specs::Step::reply))]
 pub fn ask_sdo<'a>(to: u8, request: SdoRequest, s: State) -> Asked<'a>
     requires { Fit s }

@@ -14,7 +14,7 @@ use nmt::{boot_up, reset};
 use settings::change::{take_out, write};
 use store::saved::Contents;
 use store::write::{readdress, save};
-use time::restarts::restart_for;
+use time::restarts::{restart, timer_of};
 
 // The parameters after it. Where it is a load, the store was read.
 #[tactic(auto, unfolding(model::specs::Changes::applied, model::specs::Changes::effect))]
@@ -47,7 +47,7 @@ pub fn core_after(c: Change, h: Core, old: Core, k: Settings, contents: Option<C
     ensures { (v : Service) (s : State) (st : List ℕ) → h ≡ Step.heard v s → old ≡ s.core → ReadFor c st contents.entry → result ≡ Step.core_after c v s (read st) k }
 {
     match c {
-        Change::Write(p, _) => restart_for(p, h),
+        Change::Write(p, _) => restart(timer_of(p), h),
         Change::Load(gs, id) => match contents {
             Some(contents) => loaded(gs, id, k, old, contents),
             None => h,

@@ -13,7 +13,7 @@ use wire::bytes::{byte, copy, get16};
 // The bytes of a frame in an output.
 const FRAME: usize = 12;
 
-// The first `len` bytes of a lent buffer are the text so far.
+// The first `len` bytes of a lent buffer are the text so far. No heap is a rule of this project: a `String` could run out, and a line cannot.
 #[derive(Drop)]
 pub struct Text<'a> {
     pub bytes: &'a mut [u8],
@@ -115,7 +115,7 @@ impl<'a> Text<'a> {
         self.push(b'\n');
     }
 
-    // A refused record's line: the event's number and the refusal's.
+    // A refused record's line: the event's number and the refusal's, as C's answer has it.
     pub fn refusal_line(&mut self, n: u64, number: u8)
         requires { self.old.len + 50 ≤ length self.old.bytes.now }
         ensures { Wrote 50 (Program.refusal_text n number) self.old self.new }

@@ -93,20 +93,14 @@ pub fn error_register(capped: bool) -> u8
     if capped { 0x81 } else { 0 }
 }
 
-// The code: a capped reading, or the end of it.
-fn emcy_code(capped: bool) -> u16
-    ensures { result ≡ cond capped 0xff01 0 }
-{
-    if capped { 0xff01 } else { 0 }
-}
-
-// EMCY: the code, low byte first, and the error register.
+// EMCY: the code, low byte first, for a capped reading or the end of it, and the error register.
 #[tactic(auto, using(model::proofs::Numbers::low_of_16))]
 pub fn emcy_frame(id: u8, capped: bool) -> Frame
     requires { id ≤ 127 }
     ensures { result ≡ full (emcys + id) (low_bytes 2 (cond capped 0xff01 0) ++ (cond capped 0x81 0 ∷ [])) }
 {
-    let [low, high] = emcy_code(capped).to_le_bytes();
+    let code: u16 = if capped { 0xff01 } else { 0 };
+    let [low, high] = code.to_le_bytes();
     Frame::new(
         0x80 + u16::from(id),
         8,

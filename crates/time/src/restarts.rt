@@ -18,7 +18,7 @@ pub fn timer_of(p: Parameter) -> Option<Timer>
 }
 
 // One timer's restart. With its timer the TPDO loses what it remembers.
-pub fn restart(timer: Timer, c: Core) -> Core
+pub fn restart_timer(timer: Timer, c: Core) -> Core
     ensures { result ≡ Time.restart (Some timer) c }
 {
     let mut t = c;
@@ -34,12 +34,12 @@ pub fn restart(timer: Timer, c: Core) -> Core
     t
 }
 
-// After an accepted write of a parameter: the timer that it is a period or the type of starts anew.
-pub fn restart_for(p: Parameter, c: Core) -> Core
-    ensures { result ≡ Time.restart (Time.timer_of p) c }
+// After an accepted write of a parameter: the timer that it is a period or the type of, if any, starts anew.
+pub fn restart(timer: Option<Timer>, c: Core) -> Core
+    ensures { result ≡ Time.restart timer c }
 {
-    match timer_of(p) {
-        Some(timer) => restart(timer, c),
+    match timer {
+        Some(timer) => restart_timer(timer, c),
         None => c,
     }
 }

@@ -14,13 +14,6 @@ pub fn is_timed(at: Transmission) -> bool
     at == Transmission::Timed
 }
 
-// For a remote frame.
-fn is_on_remote(at: Transmission) -> bool
-    ensures { result ≡ Time.is_on_remote at }
-{
-    at == Transmission::OnRemote
-}
-
 // ---- Samples
 
 // A new sample, also where FV is the same again.
@@ -107,7 +100,7 @@ pub fn synced(s: State) -> Core
 pub fn answers_remote(to: u8, s: State) -> bool
     ensures { result ≡ Time.answers_remote to s }
 {
-    let asked = is_on_remote(Transmission::from(s.settings.communication.tpdo.kind));
+    let asked = Transmission::from(s.settings.communication.tpdo.kind) == Transmission::OnRemote;
     (to == s.core.active.id) & ((s.core.nmt == OPERATIONAL) & asked)
 }
 

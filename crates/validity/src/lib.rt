@@ -77,6 +77,7 @@ impl Parameters for Communication {
     // The SRDO's five parameters are signed, each by its bytes, and behind them how many mappings there are and what each one is. And the COB-IDs have to be a pair;
     // the sum is wide, since a COB-ID may be any 32 bits.
     fn is_valid(&self) -> bool {
+        // A byte is read by the same method: behind a reference the check learns that it fits where it is read, and not where it is copied.
         let srdo = &self.srdo;
         let [direction] = srdo.direction.to_le_bytes();
         let [refresh0, refresh1] = srdo.refresh.to_le_bytes();
@@ -90,9 +91,8 @@ impl Parameters for Communication {
         (self.signature == crc(&bytes)) & (srdo.second as u64 == srdo.first as u64 + 1)
     }
 
-    // 13FEh.
     fn vouches(&self) -> bool {
-        self.valid == VALID
+        self.valid == VALID // 13FEh
     }
 }
 
@@ -128,8 +128,7 @@ impl Parameters for Application {
         self.signature == crc(&bytes)
     }
 
-    // 51FEh.
     fn vouches(&self) -> bool {
-        self.valid == VALID
+        self.valid == VALID // 51FEh
     }
 }

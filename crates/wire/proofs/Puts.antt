@@ -1,5 +1,5 @@
 -- Laws of `put`: a loop that writes a byte a turn, and a writer that goes through a buffer from its front to its end. Assumes nothing.
-use Rattle.std.proofs.Common.{◌≡◌, ℕ, ◌+◌, ◌≤◌, List, [], ◌++◌, length, take, drop, sym, refl, ap, ◌∙◌, append-nil, arith, length-append, length-drop, drop_of_length-le, length-take, length-take-le, take_all, take_at}
+use Rattle.std.proofs.Common.{◌≡◌, ℕ, ◌+◌, ◌≤◌, List, [], ◌++◌, length, take, drop, sym, refl, ap, ◌∙◌, arith, length-append, length-drop, length-take, length-take-le, take_all, take_at}
 use Rattle.std.proofs.lemmas.Slice.{put_mid-paste}
 use borrow.Rule.Slice.PartMut.{put_mid}
 use lib.Seq.{take-length, paste}
@@ -15,11 +15,6 @@ unfolding put
 take_put at vs l h =
     take_at (take at l ++ vs) (drop (at + length vs) l) (at + length vs)
     (length-append (take at l) vs ∙ ap (λ (k : ℕ). k + length vs) (length-take-le at l h))
-
--- a list that is as long takes the place of all
-pub put_all : (vs l : List ℕ) → length vs ≡ length l → put 0 vs l ≡ vs
-unfolding put
-put_all vs l e = rw (drop_of_length-le l {i = 0 + length vs} (omega arith)) (append-nil vs)
 
 -- all of vs, copied
 pub put_pasted : (l : List ℕ) (at : ℕ) (vs : List ℕ) (n : ℕ) → n ≡ length vs → paste l at vs n ≡ put at vs l

@@ -30,7 +30,7 @@ fn padded_at<const N: usize>(s: &[u8], at: usize) -> [u8; N]
     bytes
 }
 
-// The number of two bytes.
+// The number of two bytes. A function for each width, here and below, since `from_le_bytes` and `to_le_bytes` belong to no trait.
 #[tactic(auto, using(crate::proofs::Numbers::get_law))]
 pub fn get16(s: &[u8], at: usize) -> u16
     requires { at ≤ 65535 }
@@ -55,7 +55,7 @@ pub fn get32(s: &[u8], at: usize) -> u32
 }
 
 // All of src goes into dst, from a place on.
-// By a loop: `copy_from_slice` may call `memmove`, and the node calls `memcpy` and `memset` alone (docs/PROMISES.md).
+// By a loop: `copy_from_slice` of an unknown length may call `memmove`, which the node does not (docs/PROMISES.md).
 #[tactic(auto, using(std::proofs::lemmas::List::Edits::paste_more, crate::proofs::Puts::put_pasted))]
 pub fn copy(dst: &mut [u8], at: usize, src: &[u8])
     requires { at + length src.now ≤ length dst.old }

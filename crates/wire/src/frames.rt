@@ -9,7 +9,7 @@ use model::Frame;
 
 // ---- An event's bytes
 
-// Its kind.
+// Its kind. It stays a byte, as the flag does: `kind_of` and `flag` say what every event has there.
 pub fn kind_of(e: &[u8]) -> u8
     ensures { result ≡ kind_of_event e.now }
 {
@@ -77,7 +77,8 @@ pub fn push(out: &mut [u8], n: usize, frame: Frame) -> usize
     n + 1
 }
 
-// A frame where there is one, else nothing; the number of frames then comes back.
+// A frame where there is one, else nothing; the number of frames then comes back. Output and number stay apart, as document 01 has it: a frame
+// goes to 12 times its number.
 pub fn emit(out: &mut [u8], n: usize, frame: Option<Frame>) -> usize
     requires { (12 * n + 12 ≤ List.length out.old) × (n ≤ 3) }
     ensures { Emitted frame n out.old out.new result }

@@ -8,7 +8,7 @@ use Rattle.node.proofs.event.Goals as goal
 pub returns-in-Err : goal.returns-in-Err
 returns-in-Err c =
     let a = c.args in
-    rw (c.refused.ensures, c.number.ensures) (event_refused a.event.now a.state a.out.now a.store.now _ c.in-Err.ensures (not_done c.in-Err.reason))
+    rw (c.refused.ensures, c.into.ensures) (event_refused a.event.now a.state a.out.now a.store.now _ c.in-Err.ensures (not_done c.in-Err.reason))
 
 pub unreachable-requires : goal.unreachable-requires
 unreachable-requires c =

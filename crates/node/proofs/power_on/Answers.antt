@@ -8,7 +8,7 @@ use Rattle.node.proofs.power_on.Goals as goal
 
 pub returns-in-Err : goal.returns-in-Err
 returns-in-Err c =
-    rw (c.refused.ensures, c.number.ensures)
+    rw (c.refused.ensures, c.into.ensures)
     (power_on_refused c.args.identity _ _ _ c.in-Err.ensures (not_done c.in-Err.reason) (ap (λ (r : Answer). r.state) c.wake-woken.ensures.answer))
 
 pub unreachable-requires : goal.unreachable-requires

@@ -1,8 +1,0 @@
--- `rules::rule_lss` meets its contract: the code is the test. Assumes nothing.
-use mathlib.Core.Path.{refl}
-use Rattle.model.specs.Rules as Rules
-use Rattle.rules.proofs.rule_lss.Goals as goal
-
-pub returns : goal.returns
-unfolding Rules.rule_lss
-returns c = refl
