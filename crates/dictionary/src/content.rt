@@ -24,7 +24,8 @@ fn integer(s: State) -> Integer
     integer_pv(pv(s), s.settings.application.digits)
 }
 
-// The error register: 81h while the reading is capped. `time` has it of a flag, for EMCY: the two crates don't see each other, and one line is no crate.
+// The error register: 81h while the reading is capped. `time` has it of a flag, for EMCY: one for both would stand in
+// `reading`, which knows no objects.
 #[tactic(auto, unfolding(model::specs::Parts::error_register))]
 fn error_register(s: State) -> u8
     requires { s.settings.application.digits ≤ 4 }
@@ -39,7 +40,7 @@ pub fn shown(l: Live, s: State) -> Value
     requires { s.settings.application.digits ≤ 4 }
     ensures { result ≡ Table.shown l s }
 {
-    let id = s.core.active.id as u32;
+    let id = u32::from(s.core.active.id);
     match l {
         Live::ErrorRegister => Value::U8(error_register(s)),
         Live::EmcyId => Value::U32(0x80 + id),

@@ -9,9 +9,9 @@ ghost use Rattle.lss.specs.Told.{part_of};
 use model::{Address, Change, Core, Frame, Identity, LssRequest, Selection, State};
 use wire::address::{is_bit_index, is_node_id};
 
-// ---- Selection
+// ---- Selection. A part stays a byte (`lss_served` answers every one); part, number and state stay apart, as the definitions of `Lss` take them
 
-// The four numbers of the identity, from 0. A part stays a number: `lss_served` answers every one.
+// The four numbers of the identity, from 0.
 #[tactic(auto, unfolding(model::specs::Lss::identity_part, model::specs::Choice::first_hit))]
 fn identity_part(n: u8, i: Identity) -> u32
     ensures { result ≡ Lss.identity_part n i }

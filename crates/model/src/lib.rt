@@ -94,7 +94,8 @@ pub enum Groups {
     OnlyA,
 }
 
-// How a value stands to its range: in it, outside its set (or not finite), above or below.
+// How a value stands to its range: in it, outside its set (or not finite), above or below. No Result: where a value stands
+// is asked, not whether it is refused.
 #[derive(Clone, Copy)]
 pub enum Verdict {
     Inside,
@@ -149,8 +150,8 @@ pub enum Content {
 
 // ---- What an event asks, by its bytes alone
 
-// An SDO request. A download has a size where one is indicated; its data are the four bytes, low first. A toggle is the frame's bit, beside which
-// C's `Upload` has a byte.
+// An SDO request. A download has a size where one is indicated; its data are the four bytes, low first. A toggle stays a byte: `serve`
+// answers every one, and C's `Upload` has one beside it.
 #[derive(Clone, Copy)]
 pub enum SdoRequest {
     Download {
@@ -174,7 +175,7 @@ pub enum SdoRequest {
     },
 }
 
-// An LSS frame. Parts of the identity count from 0.
+// An LSS frame. Parts of the identity count from 0. Part and mode stay bytes: `lss_served` and `pending_after` answer every one.
 #[derive(Clone, Copy)]
 pub enum LssRequest {
     SwitchMode(u8),
@@ -188,7 +189,7 @@ pub enum LssRequest {
 }
 
 // A service and what is asked of it. `to` is the Node-ID that the CAN-ID or the NMT frame names. An NMT command stays a byte here: `commanded` says what
-// every byte does.
+// every byte does. An event that asks nothing is a service of its own, as the document lists it.
 #[derive(Clone, Copy)]
 pub enum Service {
     Nothing,
@@ -203,6 +204,7 @@ pub enum Service {
 
 // ---- What an event does to the saved parameters and to the store: nothing else touches them
 
+// `Keep` is a case like the others: an Option around the rest would be opened at each use.
 #[derive(Clone, Copy)]
 pub enum Change {
     Keep,
@@ -439,7 +441,7 @@ pub struct State {
     pub core: Core,
 }
 
-// ---- The answer of a call
+// ---- The answer of a call. Its number is a byte, as C's struct has it: 0, or a refusal's
 
 #[repr(C)]
 #[derive(Clone, Copy)]

@@ -17,7 +17,7 @@ use settings::table::defaults;
 use time::frames::heartbeat_frame;
 use time::restarts::restart_timer;
 
-// ---- Start, Stop and Pre-operational
+// ---- Start, Stop and Pre-operational. Fields are set one by one: struct update over a whole `Core` takes up to 75 instructions more in a reset
 
 // A command is for the node with its ID, or for all.
 pub fn is_for(to: u8, id: u8) -> bool
@@ -26,7 +26,7 @@ pub fn is_for(to: u8, id: u8) -> bool
     to == 0 || to == id
 }
 
-// Into another NMT state than Pre-operational, which ends LSS if it is left.
+// Into another NMT state than Pre-operational, which ends LSS if it is left. The state stays a byte, as C's struct has it.
 #[tactic(auto, unfolding(model::specs::Nmt::lss_left))]
 fn leave_for(nmt: u8, c: Core) -> Core
     ensures { result ≡ Nmt.leave_for nmt c }
@@ -82,7 +82,7 @@ pub fn pre_operational(c: Core) -> Core
     t
 }
 
-// What a command other than a reset does.
+// What a command other than a reset does. It comes as the frame's byte, here and below: `commanded` answers every one.
 #[tactic(auto, unfolding(model::specs::Nmt::obeyed, model::specs::Choice::first_hit))]
 pub fn obeyed(command: u8, k: Settings, c: Core) -> Core
     ensures { result ≡ Nmt.obeyed command k c }

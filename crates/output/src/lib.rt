@@ -22,7 +22,7 @@ use wire::frames::emit;
 
 // ---- Frames
 
-// The reply and the boot-up go out, and last the EMCY; how many that were.
+// The reply and the boot-up go out, and last the EMCY; how many that were. The room stays a clause, as below.
 pub fn send(reply: Option<Frame>, boot: Option<Frame>, emcy: Option<Frame>, out: &mut [u8]) -> u8
     requires { 48 ≤ length out.old }
     ensures { Laid ((frames_of reply ++ frames_of boot) ++ frames_of emcy) out.old out.new result }

@@ -19,7 +19,7 @@ pub struct Turn {
     pub frames: u64,
 }
 
-// The power-on, with a zero identity.
+// The power-on, with a zero identity. The room for a call's lines stays a clause, here and below: any text that has it will do.
 pub fn begin(text: &mut Text<'_>, store: &[u8]) -> Turn
     requires { text.old.len + 168 ≤ length text.old.bytes.now }
     ensures { Begins zero_identity store.now text.old text.new result }

@@ -209,7 +209,8 @@ pub fn refusal(event: &[u8], s: State, out: usize, store: usize) -> Result<(), R
     Ok(())
 }
 
-// The answer of a call that sends nothing: its number, which C has, and the state that it hands back. It is one of every number.
+// The answer of a call that sends nothing: its number, which C has, and the state that it hands back. The promise is of every number, so
+// it takes a byte.
 pub fn refused(number: u8, state: State) -> Answer
     ensures { result ≡ Step.turned_away number state }
 {

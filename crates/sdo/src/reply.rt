@@ -10,12 +10,12 @@ use dictionary::content::content;
 use model::{Change, Content, Entry, Frame, Kind, Missing, State};
 use settings::values::{encode, kind_of, word};
 
-// Eight bytes on the node's own CAN-ID.
+// Eight bytes on the node's own CAN-ID. The Node-ID's bound stays a clause: the state is C's.
 pub(crate) fn replied(bytes: [u8; 8], s: State) -> Frame
     requires { id_of s ≤ 127 }
     ensures { result ≡ Sdo.replied s bytes }
 {
-    Frame::new(0x580 + s.core.active.id as u16, 8, bytes)
+    Frame::new(0x580 + u16::from(s.core.active.id), 8, bytes)
 }
 
 // What is answered: the index and sub that a reply names, in a state whose Node-ID fits a CAN-ID.
@@ -61,7 +61,7 @@ impl Named {
         self.headed(0x80, word(code))
     }
 
-    // The reply to a write that was checked.
+    // The reply to a write that was checked. The code is a number, as in `aborted`.
     pub fn write_reply(&self, checked: Result<Change, u32>) -> Frame
         ensures { result ≡ Sdo.write_reply checked self.now.index self.now.sub self.now.state }
     {

@@ -53,7 +53,7 @@ pub fn segment_sent(u: Upload) -> Upload
     }
 }
 
-// ---- Segments
+// ---- Segments. The toggle that is asked for stays a byte: `serve` answers every one
 
 // A segment is sent where an upload is open and its toggle is the one asked for.
 pub fn sends_segment(toggle: u8, u: Upload) -> bool

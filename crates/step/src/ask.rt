@@ -41,7 +41,7 @@ fn no_matter<'a>() -> Asked<'a>
     unread(Change::Keep, None)
 }
 
-// An NMT command: a reset is a load, with the ID that becomes active. The store is read once for all that follows.
+// An NMT command, as the frame's byte: a reset is a load, with the ID that becomes active. The store is read once for all that follows.
 #[tactic(auto, unfolding(model::specs::Step::change_of, model::specs::Step::reply, model::specs::Nmt::nmt_change, model::specs::Nmt::reset_asked, model::specs::Choice::first_hit))]
 pub fn ask_nmt(command: u8, to: u8, s: State, store: &[u8; 64]) -> Asked<'_>
     ensures { IsAsked (Service.Nmt command to) s store.now result }

@@ -12,7 +12,7 @@ use reading::{bits_of, integer_pv, to_pv};
 
 // ---- The present reading
 
-// The bits of PV, and the integer PV. It is made once an event, for the frames and for EMCY.
+// The bits of PV, and the integer PV. For the rule of the reported flag and for the frames of a tick; EMCY makes the integer for itself (`output`).
 #[derive(Clone, Copy)]
 pub struct Reading {
     pub bits: u32,
@@ -43,7 +43,7 @@ fn four_bytes(id: u16, x: u32) -> Frame
     Frame::new(id, 4, [b0, b1, b2, b3, 0, 0, 0, 0])
 }
 
-// Heartbeat: the NMT state's number.
+// Heartbeat: the NMT state's number. It stays a byte: C's state has one, and the boot-up goes out by 0.
 pub fn heartbeat_frame(id: u8, nmt: u8) -> Frame
     requires { id ≤ 127 }
     ensures { result ≡ frame (heartbeats + id) (nmt ∷ []) }
@@ -108,7 +108,7 @@ pub fn emcy_frame(id: u8, capped: bool) -> Frame
     )
 }
 
-// It is due when capped is not what was reported, unless Stopped.
+// It is due when capped is not what was reported, unless Stopped. The NMT state stays a byte, as C's state has it: the promise is of every one.
 pub fn emcy_due(nmt: u8, capped: bool, reported: bool) -> bool
     ensures { result ≡ not (eqb nmt stopped) && differ capped reported }
 {

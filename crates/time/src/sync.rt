@@ -1,4 +1,4 @@
-// What a transmission type sends at, and a TPDO outside the event timer: at a SYNC, after a sample, for a remote frame.
+// A TPDO outside the event timer, by its transmission type: at a SYNC, after a sample, for a remote frame.
 ghost use Rattle.std.specs.Prelude.{◌≡◌, ◌&&◌, ◌+◌, leb};
 ghost use Rattle.model.specs.Parts.{is_operational};
 ghost use Rattle.model.specs.Time as Time;

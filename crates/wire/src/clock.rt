@@ -16,7 +16,7 @@ pub fn elapsed(clock: u16, start: u16) -> u16
     clock.wrapping_sub(start)
 }
 
-// Whether a timer's period has passed.
+// Whether a timer's period has passed. Clock, start and period come apart, as C's state has them.
 pub fn fires(clock: u16, start: u16, period: u16) -> bool
     ensures { result ≡ Clock.fires clock start period }
 {
