@@ -1,2 +1,2 @@
 pub mod Alike
-pub mod Le
+pub mod Byte

@@ -4,16 +4,17 @@ use borrow.Author.Rules.{rules}
 use Rattle.model.specs.Bytes.{low_bytes}
 use Rattle.model.specs.Settings.{bytes_of}
 use Rattle.model.specs.Validity.{signs, valid}
-use Rattle.validity.proofs.Le.{le_1, le_2, le_4}
+use Rattle.model.proofs.Numbers.{low_of_16, low_of_32}
+use Rattle.validity.proofs.Byte.{a_byte}
 use Rattle.validity.proofs.CommunicationParameters.is_valid.Goals as goal
 
 pub returns : goal.returns
 unfolding low_bytes bytes_of signs valid
 returns c = λ k. rw (
   c.crc.ensures,
-  c.to_le_bytes-5.ensures ∙ le_4 _,
-  c.to_le_bytes-4.ensures ∙ le_4 _,
-  le_1 _ _ c.to_le_bytes-3.ensures (search (rules, c.to_le_bytes-3.type_inv)),
-  c.to_le_bytes-2.ensures ∙ le_2 _,
-  le_1 _ _ c.to_le_bytes.ensures (search (rules, c.to_le_bytes.type_inv)),
+  c.to_le_bytes-5.ensures ∙ low_of_32 _,
+  c.to_le_bytes-4.ensures ∙ low_of_32 _,
+  a_byte _ _ c.to_le_bytes-3.ensures (search (rules, c.to_le_bytes-3.type_inv)),
+  c.to_le_bytes-2.ensures ∙ low_of_16 _,
+  a_byte _ _ c.to_le_bytes.ensures (search (rules, c.to_le_bytes.type_inv)),
 )

@@ -6,7 +6,7 @@ use native.Mathlib.Nat.{mod-eq_of_lt}
 use Rattle.model.specs.Bytes.{low_bytes}
 use Rattle.model.specs.Settings.{rows, bytes_of}
 use Rattle.model.specs.Store.{record_of}
-use Rattle.validity.proofs.Le.{le_2, le_4}
+use Rattle.model.proofs.Numbers.{low_of_16, low_of_32}
 use Rattle.records.proofs.codec.CommunicationCodec21.encode.Goals as goal
 
 pub returns : goal.returns
@@ -18,12 +18,12 @@ returns c = λ k.
     let kind : s.tpdo.kind < 256 = omega arith in
     let valid : s.valid < 256 = omega arith in
     rw (
-      c.to_le_bytes-6.ensures ∙ le_2 _,
-      c.to_le_bytes-5.ensures ∙ le_2 _,
-      c.to_le_bytes-4.ensures ∙ le_4 _,
-      c.to_le_bytes-3.ensures ∙ le_4 _,
-      c.to_le_bytes-2.ensures ∙ le_2 _,
-      c.to_le_bytes.ensures ∙ le_2 _,
+      c.to_le_bytes-6.ensures ∙ low_of_16 _,
+      c.to_le_bytes-5.ensures ∙ low_of_16 _,
+      c.to_le_bytes-4.ensures ∙ low_of_32 _,
+      c.to_le_bytes-3.ensures ∙ low_of_32 _,
+      c.to_le_bytes-2.ensures ∙ low_of_16 _,
+      c.to_le_bytes.ensures ∙ low_of_16 _,
       mod-eq_of_lt direction,
       mod-eq_of_lt validation,
       mod-eq_of_lt kind,
