@@ -6,7 +6,7 @@ ghost use Rattle.model.specs.Values.{width_of, kind_of, number_of, float_of, dec
 ghost use Rattle.settings.specs.Four.{four_bytes};
 
 use model::{Kind, Value};
-use reading::{bits_of, real_of};
+use reading::{bits_of, real_of, signed_of, unsigned_of};
 
 // How many bytes a type has.
 pub fn width_of(k: Kind) -> u8
@@ -40,7 +40,7 @@ pub fn number_of(v: Value) -> u32
         Value::U8(n) => u32::from(n),
         Value::U16(n) => u32::from(n),
         Value::U32(n) => n,
-        Value::Integer32(z) => z.cast_unsigned(),
+        Value::Integer32(z) => unsigned_of(z),
         Value::Real32(x) => bits_of(x),
     }
 }
@@ -63,7 +63,7 @@ pub fn decode(k: Kind, d: u32) -> Value
         Kind::U8 => Value::U8((d & 0xff) as u8),
         Kind::U16 => Value::U16((d & 0xffff) as u16),
         Kind::U32 => Value::U32(d),
-        Kind::Integer32 => Value::Integer32(d.cast_signed()),
+        Kind::Integer32 => Value::Integer32(signed_of(d)),
         Kind::Real32 => Value::Real32(real_of(d)),
     }
 }

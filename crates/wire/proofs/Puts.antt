@@ -1,4 +1,4 @@
--- Laws of `put`: a loop that writes a byte a turn, and a writer that goes through a buffer from its front to its end. Assumes nothing.
+-- Laws of `put`: a write to a part of a slice, and a writer that goes through a buffer from its front to its end. Assumes nothing.
 use Rattle.std.proofs.Common.{◌≡◌, ℕ, ◌+◌, ◌≤◌, List, [], ◌++◌, length, take, drop, sym, refl, ap, ◌∙◌, arith, length-append, length-drop, length-take, length-take-le, take_all, take_at}
 use Rattle.std.proofs.lemmas.Slice.{put_mid-paste}
 use borrow.Rule.Slice.PartMut.{put_mid}

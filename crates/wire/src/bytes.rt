@@ -56,7 +56,7 @@ pub fn get32(s: &[u8], at: usize) -> u32
 
 // All of src goes into dst, from a place on.
 // By a loop: `copy_from_slice` of an unknown length may call `memmove`, which the node does not (docs/PROMISES.md).
-#[tactic(auto, using(std::proofs::lemmas::List::Edits::paste_more, crate::proofs::Puts::put_pasted))]
+#[tactic(auto, using(crate::proofs::Numbers::store_more, crate::proofs::Numbers::all_stored))]
 pub fn copy(dst: &mut [u8], at: usize, src: &[u8])
     requires { at + length src.now ≤ length dst.old }
     ensures { dst.new ≡ put at src.now dst.old }
