@@ -17,6 +17,7 @@ use Rattle.model.specs.declared.Core.{Core}
 use Rattle.model.specs.declared.Fv.{Fv}
 use Rattle.model.specs.declared.State.{State}
 use Rattle.model.specs.declared.Answer.{Answer}
+use Rattle.model.specs.Frames.{frames_of}
 use Rattle.model.specs.Store.{Saved, read, address_from}
 use Rattle.model.specs.Parts.{with_core, with_reported, id_of}
 use Rattle.model.specs.Changes.{effect, applied, stored}
@@ -37,13 +38,13 @@ use Rattle.rules.specs.Fit.{Fit}
 use Rattle.rules.proofs.Fits.{fit}
 use Rattle.rules.proofs.Accepted.{Accepted, accepted}
 use Rattle.step.specs.declared.ask.Asked.{Asked}
-use Rattle.step.specs.Asked.{ReadFor, IsAsked, Suits, alters_of}
+use Rattle.step.specs.Asked.{IsAsked, Suits, alters_of}
 use Rattle.step.proofs.Suit.{suits}
 use Rattle.output.specs.declared.Sent.{Sent}
 use Rattle.output.specs.Sent.{Done, Leaves, emcy_of, reported_now}
 use Rattle.output.proofs.Ticks.{laid_as}
 use Rattle.node.proofs.Quiet.{kept_in, moves_of, calm}
-use Rattle.node.specs.Parts.{left, Turning, Turned}
+use Rattle.node.specs.Parts.{left, Turning}
 
 -- what a service comes to
 abbrev pub asked : Service → State → List ℕ → Outcome
@@ -225,28 +226,20 @@ pub change_done : (e : List ℕ) (s : State) (out st : List ℕ) {v : Service} {
     → c ≡ change_of v s (read st) → Gives (given (served c v s st) out) r ys zs → Gives (given (step e s st) out) r ys zs
 change_done e s out st {v} k told g = service_done e s out st k (of_change v s st out told g)
 
--- a change that touches the parameters, where `turned` made it
-pub gives_turned : (e : List ℕ) (s : State) (st : List ℕ) (v : Service) (a : Asked) {h : Core} {xs ys zs : List ℕ} {r : Answer} → v ≡ service e
-    → reports v ≡ true → h ≡ heard v s → IsAsked v s st a → zs ≡ stored a.change s st
-    → ((w : Service) (t : List ℕ) → h ≡ heard w s → ReadFor a.change t a.contents → Turned a.change a.reply w s t xs ys r)
+-- a change that touches the parameters, where `altered` made it
+pub gives_altered : (e : List ℕ) (s : State) (xs st : List ℕ) (v : Service) (a : Asked) {h : Core} {ys zs : List ℕ} {r : Answer} → v ≡ service e
+    → reports v ≡ true → h ≡ heard v s → IsAsked v s st a
+    → ((w : Service) → h ≡ heard w s → reports w ≡ true → frames_of a.reply ≡ reply w s → Gives (given (served a.change w s st) xs) r ys zs)
     → Gives (given (step e s st) xs) r ys zs
-gives_turned e s st v a {h} {xs} k other heard q z d =
-    change_done e s xs st k q.change (gives_served a.change v s st other q.frames refl refl z (d v st heard q.contents))
+gives_altered e s xs st v a k other heard q d = change_done e s xs st k q.change (d v heard other q.frames)
 
--- where an NMT command made it
-pub gives_reset : (e : List ℕ) (s : State) (st : List ℕ) (command to : ℕ) (a : Asked) {h : Core} {xs ys : List ℕ} {r : Answer} → Nmt command to ≡ service e
-    → h ≡ commanded command to s → IsAsked (Nmt command to) s st a
-    → ((w : Service) (t : List ℕ) → h ≡ heard w s → ReadFor a.change t a.contents → Turned a.change a.reply w s t xs ys r)
-    → Gives (given (step e s st) xs) r ys st
-unfolding heard
-gives_reset e s st command to a k told q d =
-    gives_turned e s st (Nmt command to) a k refl told q (rw q.change (nmt_stored command to s st)) d
-
-pub event_accepted : (e : List ℕ) (s : State) (out st : List ℕ) (n : ℕ) {r : Answer} {ys zs : List ℕ}
-    → n ≡ refusal e s (length out) (length st) → n ≡ 0 → Gives (given (step e s st) out) r ys zs → Gives (event_answer e s out st) r ys zs
+-- over w, which is what the store holds
+pub event_by : (e : List ℕ) (s : State) (out st : List ℕ) (n : ℕ) {w : List ℕ} {r : Answer} {ys zs : List ℕ}
+    → n ≡ refusal e s (length out) (length st) → n ≡ 0 → w ≡ st → Gives (given (step e s w) out) r ys zs → Gives (event_answer e s out st) r ys zs
 unfolding event_answer
-event_accepted e s out st n {r} {ys} {zs} a z g =
-    subst (λ (m : ℕ). Gives (cond (eqb m 0) (given (step e s st) out) (refused m s out st)) r ys zs) (sym z ∙ a) g
+event_by e s out st n {w} {r} {ys} {zs} a z same g =
+    subst (λ (m : ℕ). Gives (cond (eqb m 0) (given (step e s st) out) (refused m s out st)) r ys zs) (sym z ∙ a)
+    (subst (λ (x : List ℕ). Gives (given (step e s x) out) r ys zs) same g)
 
 pub event_refused : (e : List ℕ) (s : State) (out st : List ℕ) (n : ℕ) → n ≡ refusal e s (length out) (length st) → (n ≡ 0 → ⊥)
     → Gives (event_answer e s out st) (turned_away n s) out st
@@ -260,14 +253,13 @@ part_ok e v k = rw k (asked_part e)
 
 -- what the parts may count on
 pub turning : (e : List ℕ) (s : State) (st : List ℕ) (v : Service) (a : Asked) {h : Core} → v ≡ service e → rules s ≡ true
-    → h ≡ heard v s → IsAsked v s st a → Turning a h s
+    → h ≡ heard v s → IsAsked v s st a → Turning a h s st
 turning e s st v a told r k q =
     record {
       asks = v;
       heard = k;
       suits = suits_asked v s st a.change r q.change;
-      store = st;
-      contents = q.contents;
+      sizes = q.sizes;
       after = fit_asked v s st a.change (rules_after e s st v told r) q.change;
     }
 

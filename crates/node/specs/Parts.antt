@@ -14,20 +14,19 @@ use Rattle.rules.specs.Fit.{Fit}
 use Rattle.output.specs.declared.Sent.{Sent}
 use Rattle.output.specs.Sent.{Done, emcy_of, reported_now}
 use Rattle.step.specs.declared.ask.Asked.{Asked}
-use Rattle.step.specs.Asked.{ReadFor, Suits}
+use Rattle.step.specs.Asked.{SizesFor, Suits}
 
 -- the answer of a call that has left the parameters
 abbrev pub left : Sent → State → Answer
 left r s = record { number = done; count = r.count; state = with_core s r.core }
 
 -- what `turned` may count on: h is the core after some service, which the change is made with
-pub record Turning (a : Asked) (h : Core) (s : State) : Type 0 where
+pub record Turning (a : Asked) (h : Core) (s : State) (st : List ℕ) : Type 0 where
   pub asks : Service
   pub heard : h ≡ heard asks s
   pub suits : Suits a.change
-  pub store : List ℕ
-  pub contents : ReadFor a.change store a.contents
-  pub after : Fit (changed a.change asks s (read store))
+  pub sizes : SizesFor a.change st a.sizes
+  pub after : Fit (changed a.change asks s (read st))
 
 -- what `turned` comes to: the reply, the boot-up and EMCY went out, and the state after the change comes back
 abbrev pub Turned : Change → Option Frame → Service → State → List ℕ → List ℕ → List ℕ → Answer → Type 0

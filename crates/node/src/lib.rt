@@ -1,16 +1,16 @@
 // The node: power-on, and one event. What users call.
 #![tactic(auto)]
 
-ghost use Rattle.std.specs.Prelude.{◌≡◌, ◌≤◌, true, List, ℕ, length};
+ghost use Rattle.std.specs.Prelude.{◌≡◌, ◌≤◌, true, length};
 ghost use Rattle.model.specs.declared.Service.{Service};
 ghost use Rattle.model.specs.declared.Service.TheVariants as Service;
-ghost use Rattle.model.specs.Rules.{rules};
+ghost use Rattle.model.specs.Frames.{frames_of};
 ghost use Rattle.model.specs.Step as Step;
 ghost use Rattle.model.specs.Step.{Gives};
 ghost use Rattle.lss.specs.Told.{part_of};
 ghost use Rattle.rules.specs.Fit.{Fit};
 ghost use Rattle.output.specs.Sent.{Leaves};
-ghost use Rattle.step.specs.Asked.{ReadFor};
+ghost use Rattle.step.specs.Asked.{SizesFor, ReadFor};
 ghost use Rattle.node.specs.Parts.{left, Turning, Turned};
 
 use lss::{lss_reply, lss_served};
@@ -53,14 +53,26 @@ fn lss_sent(request: LssRequest, s: State, out: &mut [u8]) -> Sent
 
 // ---- A change that touches the parameters
 
-// Those after it, the rest of the state, and what is sent. h is the core that the service leaves.
-fn turned(asked: Asked, h: Core, s: State, out: &mut [u8]) -> Answer
-    requires { Turning asked h s × (48 ≤ length out.old) }
-    ensures { (v : Service) (st : List ℕ) → h ≡ Step.heard v s → ReadFor asked.entry.change st asked.entry.contents → Turned asked.entry.change asked.entry.reply v s st out.old out.new result }
+// What the store holds, where the change is a load: no other reads it.
+fn read_for(asked: Asked, store: &[u8; 64]) -> Option<Contents<'_>>
+    requires { SizesFor asked.change store.now asked.sizes }
+    ensures { ReadFor asked.change store.now result }
+{
+    match (asked.change, asked.sizes) {
+        (Change::Load(..), Some(sizes)) => Some(Contents { store, sizes }),
+        _ => None,
+    }
+}
+
+// The parameters after it, the rest of the state, and what is sent. h is the core that the service leaves.
+fn turned(asked: Asked, h: Core, s: State, out: &mut [u8], store: &[u8; 64]) -> Answer
+    requires { Turning asked h s store.now × (48 ≤ length out.old) }
+    ensures { (v : Service) → h ≡ Step.heard v s → Turned asked.change asked.reply v s store.now out.old out.new result }
 {
     let c = asked.change;
-    let settings = settings_after(c, s.settings, asked.contents);
-    let mut core = core_after(c, h, s.core, settings, asked.contents);
+    let contents = read_for(asked, store);
+    let settings = settings_after(c, s.settings, contents);
+    let mut core = core_after(c, h, s.core, settings, contents);
     let told = emcy_after(settings.application, core);
     let boot = booted(c);
     let count = send(asked.reply, boot, told.emcy, out);
@@ -78,6 +90,16 @@ fn turned(asked: Asked, h: Core, s: State, out: &mut [u8]) -> Answer
     }
 }
 
+// The same, and the store after it.
+fn altered(asked: Asked, h: Core, s: State, out: &mut [u8], store: &mut [u8; 64]) -> Answer
+    requires { Turning asked h s store.old × (48 ≤ length out.old) }
+    ensures { (v : Service) → h ≡ Step.heard v s → Step.reports v ≡ true → frames_of asked.reply ≡ Step.reply v s → Gives (Step.given (Step.served asked.change v s store.old) out.old) result out.new store.new }
+{
+    let answer = turned(asked, h, s, out, store);
+    store_after(asked.change, s, store);
+    answer
+}
+
 // ---- The power-on
 
 // The node as the load of a power-on leaves it: both groups, under the ID saved in N, with its boot-up and EMCY.
@@ -90,9 +112,9 @@ fn wake(identity: Identity, out: &mut [u8], store: &[u8; 64]) -> Answer
     let asked = Asked {
         change: Change::Load(Groups::Both, contents.address().id),
         reply: None,
-        contents: Some(contents),
+        sizes: Some(contents.sizes),
     };
-    turned(asked, s.core, s, out)
+    turned(asked, s.core, s, out, store)
 }
 
 // Power-on. A refused one hands back the state that a store of zeros gives, and what that would send goes nowhere.
@@ -114,41 +136,6 @@ pub fn power_on(identity: Identity, out: &mut [u8], store: &[u8]) -> Answer
 
 // ---- One event
 
-// What an event comes to that is not refused.
-fn served(event: &[u8], state: State, out: &mut [u8], store: &mut [u8; 64]) -> Answer
-    requires { (rules state ≡ true) × Fit state × (48 ≤ length out.old) }
-    ensures { Gives (Step.given (Step.step event.now state store.old) out.old) result out.new store.new }
-{
-    match service(event) {
-        Service::Nothing => refused(0, state),
-        Service::Tick => answered(tick(state, out), state),
-        Service::Sample(fv) => answered(sample(fv, state, out), state),
-        Service::Sync => answered(sync(state, out), state),
-        Service::Remote { to } => answered(remote(to, state, out), state),
-        Service::Nmt { command, to } => {
-            let asked = ask_nmt(command, to, state, store);
-            let h = commanded(command, to, state);
-            if alters(asked.change) {
-                return turned(asked, h, state, out);
-            }
-            answered(report(state, h, out), state)
-        }
-        Service::Sdo { to, request } => {
-            let asked = ask_sdo(to, request, state);
-            let h = sdo_heard(to, request, state);
-            store_after(asked.change, state, store);
-            if alters(asked.change) {
-                return turned(asked, h, state, out);
-            }
-            answered(replied(asked.reply, h, out), state)
-        }
-        Service::Lss(request) => {
-            store_after(ask_lss(request, state), state, store);
-            answered(lss_sent(request, state, out), state)
-        }
-    }
-}
-
 // An event. A refused one leaves state, output and store as they were.
 pub fn event(event: &[u8], state: State, out: &mut [u8], store: &mut [u8]) -> Answer
     ensures { Gives (Step.event_answer event.now state out.old store.old) result out.new store.new }
@@ -159,5 +146,32 @@ pub fn event(event: &[u8], state: State, out: &mut [u8], store: &mut [u8]) -> An
     let Some(store) = store.as_mut_array() else {
         unreachable!()
     };
-    served(event, state, out, store)
+    match service(event) {
+        Service::Nothing => refused(0, state),
+        Service::Tick => answered(tick(state, out), state),
+        Service::Sample(fv) => answered(sample(fv, state, out), state),
+        Service::Sync => answered(sync(state, out), state),
+        Service::Remote { to } => answered(remote(to, state, out), state),
+        Service::Nmt { command, to } => {
+            let asked = ask_nmt(command, to, state, store);
+            let h = commanded(command, to, state);
+            if alters(asked.change) {
+                return altered(asked, h, state, out, store);
+            }
+            answered(report(state, h, out), state)
+        }
+        Service::Sdo { to, request } => {
+            let asked = ask_sdo(to, request, state);
+            let h = sdo_heard(to, request, state);
+            if alters(asked.change) {
+                return altered(asked, h, state, out, store);
+            }
+            store_after(asked.change, state, store);
+            answered(replied(asked.reply, h, out), state)
+        }
+        Service::Lss(request) => {
+            store_after(ask_lss(request, state), state, store);
+            answered(lss_sent(request, state, out), state)
+        }
+    }
 }

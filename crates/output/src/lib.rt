@@ -80,7 +80,8 @@ pub fn replied(reply: Option<Frame>, core: Core, out: &mut [u8]) -> Sent
     }
 }
 
-// EMCY goes out where it is due with the core h, after which the reported flag is right.
+// EMCY goes out where it is due with the core h, after which the reported flag is right. Inlined, so that no state is laid down for it on the stack.
+#[inline(always)]
 pub fn report(s: State, h: Core, out: &mut [u8]) -> Sent
     requires { (s.settings.application.digits ≤ 4) × ((h.active.id ≤ 127) × (48 ≤ length out.old)) }
     ensures { Leaves (emcy_of (with_core s h)) (reported_now (with_core s h)).core out.old out.new result }

@@ -13,10 +13,10 @@ use Rattle.model.specs.declared.State.{State}
 use Rattle.model.specs.Dictionary.{find}
 use Rattle.model.specs.Sdo.{write_code, asked, checked_write, change_in, sdo_change}
 use Rattle.laws.proofs.Tests.{cond_case}
-use Rattle.store.specs.declared.saved.Contents.{Contents}
-use Rattle.step.specs.Asked.{ReadFor}
+use Rattle.image.specs.declared.Sizes.{Sizes}
+use Rattle.step.specs.Asked.{SizesFor}
 
-write_unread : (f : Result Entry Missing) (d : ℕ) (st : List ℕ) (z : Option Contents) → ReadFor (asked f d) st z
+write_unread : (f : Result Entry Missing) (d : ℕ) (st : List ℕ) (z : Option Sizes) → SizesFor (asked f d) st z
 write_unread (Err m) d st z = tt
 write_unread (Ok (Fixed x)) d st z = tt
 write_unread (Ok Name) d st z = tt
@@ -25,10 +25,10 @@ write_unread (Ok (Setting p)) d st z = tt
 write_unread (Ok (SaveWord gs)) d st z = tt
 write_unread (Ok (LoadWord gs)) d st z = tt
 
-pub sdo_unread : (q : SdoRequest) (s : State) (st : List ℕ) (z : Option Contents) → ReadFor (sdo_change q s) st z
+pub sdo_unread : (q : SdoRequest) (s : State) (st : List ℕ) (z : Option Sizes) → SizesFor (sdo_change q s) st z
 unfolding sdo_change checked_write
 sdo_unread (R.Download index sub size d) s st z =
-    cond_case (λ (x : Result Change ℕ). ReadFor (change_in x) st z) (eqb (write_code (find index sub) size d s) 0)
+    cond_case (λ (x : Result Change ℕ). SizesFor (change_in x) st z) (eqb (write_code (find index sub) size d s) 0)
     (λ _. write_unread (find index sub) d st z)
     (λ _. tt)
 sdo_unread (R.Upload index sub) s st z = tt

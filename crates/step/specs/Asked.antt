@@ -9,10 +9,22 @@ use Rattle.model.specs.Settings.{row}
 use Rattle.model.specs.Store.{read}
 use Rattle.model.specs.Frames.{frames_of}
 use Rattle.model.specs.Step.{change_of, reply}
+use Rattle.image.specs.declared.Sizes.{Sizes}
+use Rattle.store.specs.Saved.{Kept}
 use Rattle.store.specs.declared.saved.Contents.{Contents}
 use Rattle.step.specs.declared.ask.Asked.{Asked}
 
--- for a load, the store was read, and this is what it holds; no other change reads it
+-- for a load, the store was read, and these are the sizes of what is saved in it; no other change reads it
+abbrev pub SizesFor : Change → List ℕ → Option Sizes → Type 0
+SizesFor Keep st o = Unit {0}
+SizesFor (Write p x) st o = Unit {0}
+SizesFor (Save gs) st o = Unit {0}
+SizesFor (TakeOut gs) st o = Unit {0}
+SizesFor (Load gs id) st (Some z) = Kept st z
+SizesFor (Load gs id) st None = ⊥
+SizesFor SavePending st o = Unit {0}
+
+-- the same as `Contents`, which is what the store holds
 abbrev pub ReadFor : Change → List ℕ → Option Contents → Type 0
 ReadFor Keep st o = Unit {0}
 ReadFor (Write p x) st o = Unit {0}
@@ -22,11 +34,11 @@ ReadFor (Load gs id) st (Some h) = h.store.now ≡ st
 ReadFor (Load gs id) st None = ⊥
 ReadFor SavePending st o = Unit {0}
 
--- the change of a service, its reply, and what the store holds
+-- the change of a service, its reply, and the sizes
 pub record IsAsked (v : Service) (s : State) (st : List ℕ) (r : Asked) : Type 0 where
   pub change : r.change ≡ change_of v s (read st)
   pub frames : frames_of r.reply ≡ reply v s
-  pub contents : ReadFor r.change st r.contents
+  pub sizes : SizesFor r.change st r.sizes
 
 -- a write has a value of its parameter's type, and a load an ID of a node
 abbrev pub Suits : Change → Type 0

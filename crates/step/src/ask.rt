@@ -8,6 +8,7 @@ ghost use Rattle.model.specs.Step as Step;
 ghost use Rattle.rules.specs.Fit.{Fit};
 ghost use Rattle.step.specs.Asked.{IsAsked};
 
+use image::Sizes;
 use lss::lss_change;
 use model::{Change, Core, Frame, Groups, LssRequest, PRE_OPERATIONAL, STOPPED, SdoRequest, State};
 use nmt::commands::Command;
@@ -15,35 +16,38 @@ use nmt::is_for;
 use sdo::serve::{serve, upload_after};
 use store::saved::Contents;
 
-// What a service comes to. Where the change is a load, the store was read, and this is what it holds.
+// What a service comes to. Where the change is a load, the store was read, and these are the sizes of what is saved in it. They are no `Contents`:
+// that would keep the store lent, and whoever asks may write it next.
 #[derive(Clone, Copy)]
-pub struct Asked<'a> {
+pub struct Asked {
     pub change: Change,
+    pub sizes: Option<Sizes>,
     pub reply: Option<Frame>,
-    pub contents: Option<Contents<'a>>,
 }
 
 // What a service comes to for which the store is not read.
-fn unread<'a>(change: Change, reply: Option<Frame>) -> Asked<'a>
+fn unread(change: Change, reply: Option<Frame>) -> Asked
     ensures { (result.change ≡ change) × (result.reply ≡ reply) }
 {
     Asked {
         change,
         reply,
-        contents: None,
+        sizes: None,
     }
 }
 
 // A service that neither changes nor replies.
-fn no_matter<'a>() -> Asked<'a>
+fn no_matter() -> Asked
     ensures { (result.change ≡ Change.Keep) × (result.reply ≡ None) }
 {
     unread(Change::Keep, None)
 }
 
 // An NMT command, as the frame's byte: a reset is a load, with the ID that becomes active. The store is read once for all that follows.
+// Not inlined, here and below: the locals would lie on the stack of every event (docs/COSTS.md).
 #[tactic(auto, unfolding(model::specs::Step::change_of, model::specs::Step::reply, model::specs::Nmt::nmt_change, model::specs::Nmt::reset_asked, model::specs::Choice::first_hit))]
-pub fn ask_nmt(command: u8, to: u8, s: State, store: &[u8; 64]) -> Asked<'_>
+#[inline(never)]
+pub fn ask_nmt(command: u8, to: u8, s: State, store: &[u8; 64]) -> Asked
     ensures { IsAsked (Service.Nmt command to) s store.now result }
 {
     if !is_for(to, s.core.active.id) {
@@ -56,7 +60,7 @@ pub fn ask_nmt(command: u8, to: u8, s: State, store: &[u8; 64]) -> Asked<'_>
             Asked {
                 change,
                 reply: None,
-                contents: Some(contents),
+                sizes: Some(contents.sizes),
             }
         }
         Ok(Command::ResetCommunication) => {
@@ -64,7 +68,7 @@ pub fn ask_nmt(command: u8, to: u8, s: State, store: &[u8; 64]) -> Asked<'_>
             Asked {
                 change,
                 reply: None,
-                contents: Some(Contents::read(store)),
+                sizes: Some(Contents::read(store).sizes),
             }
         }
         _ => no_matter(),
@@ -80,7 +84,8 @@ fn serves(to: u8, s: State) -> bool
 
 // An SDO request, where it is served. `Fit` stays a clause, here and below: it is said of the state, which C has.
 #[tactic(auto, using(crate::proofs::Unread::sdo_unread), unfolding(model::specs::Step::change_of, model::specs::Step::reply))]
-pub fn ask_sdo<'a>(to: u8, request: SdoRequest, s: State) -> Asked<'a>
+#[inline(never)]
+pub fn ask_sdo(to: u8, request: SdoRequest, s: State) -> Asked
     requires { Fit s }
     ensures { (st : List ℕ) → IsAsked (Service.Sdo to request) s st result }
 {

@@ -11,8 +11,10 @@ use Rattle.node.proofs.turned.Goals as goal
 pub emcy_after-told-requires : goal.emcy_after-told-requires
 emcy_after-told-requires c =
     let p = c.requires.0 in
-    let settled = c.settings_after-settings.ensures p.store p.contents in
-    (rw settled p.after.digits, rw (c.core_after-core.ensures p.asks c.args.s p.store p.heard refl p.contents, settled) p.after.id)
+    let st = c.args.store.now in
+    let held = c.read_for-contents.ensures in
+    let settled = c.settings_after-settings.ensures st held in
+    (rw settled p.after.digits, rw (c.core_after-core.ensures p.asks c.args.s st p.heard refl held, settled) p.after.id)
 
 pub returns : goal.returns
 returns c =
@@ -21,8 +23,10 @@ returns c =
     let reply = frames_of a.reply in
     let boot = frames_of c.booted-boot.result in
     let emcy = frames_of c.emcy_after-told.result.emcy in
-    λ v st heard held.
+    let st = c.args.store.now in
+    let held = c.read_for-contents.ensures in
     let settled = c.settings_after-settings.ensures st held in
+    λ v heard.
     let core = c.core_after-core.ensures v s st heard refl held in
     let judged =
     c.emcy_after-told.ensures (Step.changed a.change v s (read st)) (ap (λ (k : Settings). k.application) (sym settled))

@@ -16,8 +16,7 @@ turned-requires c =
         asks = Service.Nothing;
         heard = refl;
         suits = suits_load _ _ loads;
-        store = c.args.store.now;
-        contents = c.read-contents.ensures;
+        sizes = rw c.read-contents.ensures at c.read-contents.result.kept;
         after = rw c.unborn-s.ensures (fit_awake c.args.identity _ _ loads);
       },
       c.requires,
@@ -31,4 +30,4 @@ returns c =
     let loads = rw c.read-contents.ensures at (ap (λ (a : Address). Load Both a.id) c.address.ensures) in
     of_change Service.Nothing (Step.unborn i) st _ loads
     (gives_served _ Service.Nothing (Step.unborn i) st refl refl refl refl (load_leaves i st _ loads)
-    (rw c.unborn-s.ensures at (c.turned.ensures Service.Nothing st refl c.read-contents.ensures)))
+    (rw c.unborn-s.ensures at (c.turned.ensures Service.Nothing refl)))
