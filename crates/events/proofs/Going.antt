@@ -1,8 +1,10 @@
 -- What a record leaves, as the functions of the reader have it, and records one after the other. Assumes nothing.
-use Rattle.std.proofs.Common.{◌≡◌, ℕ, ◌+◌, ◌%◌, ◌^◌, ◌<◌, ◌≤◌, Bool, true, false, nat_lt, List, [], ◌∷◌, ◌++◌, length, take, sym, refl, ap, ap₂, ◌∙◌, append_assoc, append-nil, arith, length-append, length-take-le, min, subst, ltb-false, ltb-true, le-ltb, lt-ltb}
+use Rattle.std.proofs.lemmas.List.{take-append-drop}
+use Rattle.std.proofs.Common.{◌≡◌, ◌≢◌, ℕ, ◌+◌, ◌-◌, ◌%◌, ◌^◌, ◌<◌, ◌≤◌, Bool, true, false, nat_lt, List, [], ◌∷◌, ◌++◌, length, take, drop, sym, refl, ap, ap₂, ◌∙◌, append_assoc, append-nil, arith, length-append, length-take, length-take-le, min, subst, ltb-false, ltb-true, le-ltb, lt-ltb}
 use Rattle.model.specs.Run.{Call, Line, World, sent_in, run, continued}
 use Rattle.model.specs.Program.{line_text, end_line, records}
 use Rattle.wire.proofs.Puts.{take_put}
+use Rattle.wire.proofs.Lay.{tail_all}
 use Rattle.text.specs.declared.Text.{Text}
 use Rattle.text.specs.Written.{Wrote}
 use Rattle.program.specs.declared.Turn.{Turn}
@@ -146,11 +148,27 @@ far_more {n} {s} {d} {x} {rest} f thirteen cut w =
           ∙ f.left;
     }
 
+-- the same of a slice, cut behind a whole record
+pub far_cut : {s d : List ℕ} {r q p : Run} → Far s d r q → 13 ≤ length d → Went (calling (take 13 d) ∷ []) q p
+    → Far s (take (length d - 13) (drop 13 d)) r p
+far_cut {s} {d} {r} {q} {p} f h w =
+    let more : 0 < length d = omega (arith, h) in
+    subst (λ l. Far s l r p) (sym (tail_all 13 d)) (far_more f refl (sym (take-append-drop 13 d), length-take 13 d, more) w)
+
 pub far_all : {s d : List ℕ} {r q : Run} → Far s d r q → length d ≡ 0 → Went (records (length s) s) r q
 unfolding records
 far_all {s} {d} {r} {q} f none =
     let e : records (length d) d ≡ [] = rw none refl in
     subst (λ (cs : List Call). Went cs r q) (sym (append-nil f.done) ∙ ap (λ (cs : List Call). f.done ++ cs) (sym e) ∙ f.left) f.went
+
+-- a short record is the last
+pub far_last : {s d : List ℕ} {r q p : Run} → Far s d r q → length d < 13 → (length d ≡ 0 → ⊥) → Went (calling d ∷ []) q p
+    → Went (records (length s) s) r p
+far_last {s} {d} f h some w =
+    let left : length d ≢ 0 = some in
+    let more : 0 < length d = omega (arith, left) in
+    let long : length d ≡ min 13 (length d) = omega (arith, h) in
+    far_all (far_more f refl (sym (append-nil d), long, more) w) refl
 
 -- ---- Buffers
 

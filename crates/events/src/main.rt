@@ -80,13 +80,18 @@ impl<'a> Run<'a> {
         self.frames = self.frames.wrapping_add(turn.frames);
     }
 
-    // All the records of a buffer, of which the last is short where fewer than 13 bytes are left.
-    #[tactic(auto, using(crate::proofs::Going::far_none, crate::proofs::Going::far_more))]
+    // All the records of a buffer, of which the last is short where fewer than 13 bytes are left. Not by `chunks`: there one number is both the
+    // length of a record and the place of the next, and no edit could tell the two apart.
     fn records(&mut self, s: &[u8])
         ensures { Went (Program.records (length s.now) s.now) self.old self.new }
     {
-        for record in s.chunks(RECORD) {
-            self.one(record);
+        let mut rest = s;
+        while RECORD <= rest.len() {
+            self.one(&rest[..RECORD]);
+            rest = &rest[RECORD..];
+        }
+        if !rest.is_empty() {
+            self.one(rest);
         }
     }
 
