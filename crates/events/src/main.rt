@@ -80,8 +80,8 @@ impl<'a> Run<'a> {
         self.frames = self.frames.wrapping_add(turn.frames);
     }
 
-    // All the records of a buffer, of which the last is short where fewer than 13 bytes are left. Not by `chunks`: there one number is both the
-    // length of a record and the place of the next, and no edit could tell the two apart.
+    // All the records of a buffer, of which the last is short where fewer than 13 bytes are left. Not by `chunks`, where one number is both the
+    // length of a record and the place of the next: `records_of_twelve` gets the place wrong alone.
     fn records(&mut self, s: &[u8])
         ensures { Went (Program.records (length s.now) s.now) self.old self.new }
     {

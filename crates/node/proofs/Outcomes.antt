@@ -215,6 +215,10 @@ gives_nmt command to s st {c} told a k l =
 pub admitted : (e : List ℕ) (s : State) (out st : ℕ) {n : ℕ} → n ≡ refusal e s out st → n ≡ 0 → Accepted s out st
 admitted e s out st a z = accepted e s out st (sym a ∙ z)
 
+-- what each of its services may count on
+pub may_serve : (e : List ℕ) (s : State) (out st : ℕ) {n : ℕ} → n ≡ refusal e s out st → n ≡ 0 → Fit s × (48 ≤ out)
+may_serve e s out st a z = let ok = admitted e s out st a z in (fit s ok.kept, ok.lent.room)
+
 -- by the service that its code has found
 pub service_done : (e : List ℕ) (s : State) (out st : List ℕ) {v : Service} {r : Answer} {ys zs : List ℕ} → v ≡ service e
     → Gives (given (asked v s st) out) r ys zs → Gives (given (step e s st) out) r ys zs

@@ -14,25 +14,23 @@ use Rattle.store.specs.Saved.{Kept}
 use Rattle.store.specs.declared.saved.Contents.{Contents}
 use Rattle.step.specs.declared.ask.Asked.{Asked}
 
--- for a load, the store was read, and these are the sizes of what is saved in it; no other change reads it
-abbrev pub SizesFor : Change → List ℕ → Option Sizes → Type 0
-SizesFor Keep st o = Unit {0}
-SizesFor (Write p x) st o = Unit {0}
-SizesFor (Save gs) st o = Unit {0}
-SizesFor (TakeOut gs) st o = Unit {0}
-SizesFor (Load gs id) st (Some z) = Kept st z
-SizesFor (Load gs id) st None = ⊥
-SizesFor SavePending st o = Unit {0}
+-- for a load there is something, of which this holds; no other change needs it
+abbrev pub ForLoad : {A : Type 0} → (A → Type 0) → Change → Option A → Type 0
+ForLoad holds Keep o = Unit {0}
+ForLoad holds (Write p x) o = Unit {0}
+ForLoad holds (Save gs) o = Unit {0}
+ForLoad holds (TakeOut gs) o = Unit {0}
+ForLoad holds (Load gs id) (Some x) = holds x
+ForLoad holds (Load gs id) None = ⊥
+ForLoad holds SavePending o = Unit {0}
 
--- the same as `Contents`, which is what the store holds
+-- the sizes of what is saved in the store
+abbrev pub SizesFor : Change → List ℕ → Option Sizes → Type 0
+SizesFor c st o = ForLoad (Kept st) c o
+
+-- what the store holds
 abbrev pub ReadFor : Change → List ℕ → Option Contents → Type 0
-ReadFor Keep st o = Unit {0}
-ReadFor (Write p x) st o = Unit {0}
-ReadFor (Save gs) st o = Unit {0}
-ReadFor (TakeOut gs) st o = Unit {0}
-ReadFor (Load gs id) st (Some h) = h.store.now ≡ st
-ReadFor (Load gs id) st None = ⊥
-ReadFor SavePending st o = Unit {0}
+ReadFor c st o = ForLoad (λ (h : Contents). h.store.now ≡ st) c o
 
 -- the change of a service, its reply, and the sizes
 pub record IsAsked (v : Service) (s : State) (st : List ℕ) (r : Asked) : Type 0 where

@@ -44,7 +44,7 @@ fn no_matter() -> Asked
 }
 
 // An NMT command, as the frame's byte: a reset is a load, with the ID that becomes active. The store is read once for all that follows.
-// Not inlined, here and below: the locals would lie on the stack of every event (docs/COSTS.md).
+// Not inlined, and `ask_sdo` neither: their locals would lie on the stack of every event (docs/COSTS.md).
 #[tactic(auto, unfolding(model::specs::Step::change_of, model::specs::Step::reply, model::specs::Nmt::nmt_change, model::specs::Nmt::reset_asked, model::specs::Choice::first_hit))]
 #[inline(never)]
 pub fn ask_nmt(command: u8, to: u8, s: State, store: &[u8; 64]) -> Asked

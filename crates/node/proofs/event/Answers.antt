@@ -6,7 +6,7 @@ use Rattle.model.specs.Step as Step
 use Rattle.rules.proofs.Fits.{fit}
 use Rattle.rules.proofs.Rows.{not_done}
 use Rattle.step.proofs.Altered.{lss_unaltered}
-use Rattle.node.proofs.Outcomes.{admitted, event_by, event_refused, gives_nothing, gives_tick, gives_sample, gives_sync, gives_remote, gives_nmt, gives_calm, gives_altered, service_done, change_done, part_ok, id_stayed, turning}
+use Rattle.node.proofs.Outcomes.{admitted, may_serve, event_by, event_refused, gives_nothing, gives_tick, gives_sample, gives_sync, gives_remote, gives_nmt, gives_calm, gives_altered, service_done, change_done, part_ok, id_stayed, turning}
 use Rattle.node.proofs.event.Goals as goal
 
 pub returns-in-Err : goal.returns-in-Err
@@ -25,39 +25,25 @@ altered-requires c =
     (turning _ _ _ _ _ c.in-Nmt.ensures ok.kept c.commanded-h.ensures c.ask_nmt-asked.ensures, ok.lent.room)
 
 pub tick-requires : goal.tick-requires
-tick-requires c =
-    let ok = admitted _ c.args.state _ _ c.in_default.ensures refl in
-    (fit c.args.state ok.kept, ok.lent.room)
+tick-requires c = may_serve _ c.args.state _ _ c.in_default.ensures refl
 
 pub sample-requires : goal.sample-requires
-sample-requires c =
-    let ok = admitted _ c.args.state _ _ c.in_default.ensures refl in
-    (fit c.args.state ok.kept, ok.lent.room)
+sample-requires c = may_serve _ c.args.state _ _ c.in_default.ensures refl
 
 pub sync-requires : goal.sync-requires
-sync-requires c =
-    let ok = admitted _ c.args.state _ _ c.in_default.ensures refl in
-    (fit c.args.state ok.kept, ok.lent.room)
+sync-requires c = may_serve _ c.args.state _ _ c.in_default.ensures refl
 
 pub remote-requires : goal.remote-requires
-remote-requires c =
-    let ok = admitted _ c.args.state _ _ c.in_default.ensures refl in
-    (fit c.args.state ok.kept, ok.lent.room)
+remote-requires c = may_serve _ c.args.state _ _ c.in_default.ensures refl
 
 pub ask_sdo-asked-requires : goal.ask_sdo-asked-requires
-ask_sdo-asked-requires c =
-    let ok = admitted _ c.args.state _ _ c.in_default.ensures refl in
-    fit c.args.state ok.kept
+ask_sdo-asked-requires c = (may_serve _ c.args.state _ _ c.in_default.ensures refl).0
 
 pub sdo_heard-h-requires : goal.sdo_heard-h-requires
-sdo_heard-h-requires c =
-    let ok = admitted _ c.args.state _ _ c.in_default.ensures refl in
-    fit c.args.state ok.kept
+sdo_heard-h-requires c = (may_serve _ c.args.state _ _ c.in_default.ensures refl).0
 
 pub replied-requires : goal.replied-requires
-replied-requires c =
-    let ok = admitted _ c.args.state _ _ c.in_default.ensures refl in
-    ok.lent.room
+replied-requires c = (may_serve _ c.args.state _ _ c.in_default.ensures refl).1
 
 pub returns-then-alters : goal.returns-then-alters
 unfolding Step.heard
@@ -108,8 +94,8 @@ returns-else-alters-2 c =
 
 pub lss_sent-requires : goal.lss_sent-requires
 lss_sent-requires c =
-    let ok = admitted _ c.args.state _ _ c.in_default.ensures refl in
-    (fit c.args.state ok.kept, (part_ok _ _ c.in-Lss.ensures, ok.lent.room))
+    let may = may_serve _ c.args.state _ _ c.in_default.ensures refl in
+    (may.0, (part_ok _ _ c.in-Lss.ensures, may.1))
 
 pub returns-in-Lss : goal.returns-in-Lss
 returns-in-Lss c =
